@@ -1,0 +1,40 @@
+// A command sheet.
+ghost use mathlib.Core.Path.{_≡_};
+ghost use Prim.Native.Nat.{ℕ, _+_, _<_, _≤_, _^_};
+ghost use lib.ListN.{length, take};
+ghost use Rattle.grammar.specs.Closure.{Nullables};
+ghost use Rattle.grammar.specs.Limits.{Counts, Lefts, Short, Rights, Spelled, Aliased, Placed, Treed};
+
+mod make;
+mod read;
+
+use super::Alias;
+use super::Rule;
+use super::Spelling;
+use super::Symbol;
+
+#[derive(Drop)]
+pub struct Sheet {
+    rules: [Rule; 128],
+    rule_count: u8,
+    names: [Spelling; 32],
+    name_count: u8,
+    words: [Spelling; 64],
+    word_count: u8,
+    aliases: [Alias; 16],
+    alias_count: u8,
+    starts: [u16; 129],
+    fillers: u64,
+    nullable: u32,
+    ghost counts: { Counts «rule_count» «name_count» «word_count» «alias_count» },
+    ghost whole: { length (take «rule_count» rules) ≡ «rule_count» },
+    ghost lefts: { Lefts «name_count» «rule_count» rules },
+    ghost short: { Short «rule_count» rules },
+    ghost rights: { Rights «name_count» «word_count» «rule_count» rules },
+    ghost spelled: { Spelled «name_count» names × Spelled «word_count» words },
+    ghost aliased: { Aliased «word_count» «alias_count» aliases },
+    ghost placed: { Placed rules «rule_count» starts },
+    ghost filled: { fillers < 2 ^ «word_count» },
+    ghost treed: { Treed «name_count» (take «rule_count» rules) },
+    ghost nulls: { Nullables (take «rule_count» rules) nullable },
+}
