@@ -1,8 +1,10 @@
 pub mod BitSets
 pub mod Closures
+pub mod Dots
 pub mod Every
 pub mod Fronts
 pub mod Lone
+pub mod Masking
 pub mod Places
 pub mod Pushed
 pub mod Views

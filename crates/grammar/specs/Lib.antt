@@ -6,3 +6,5 @@ pub mod View
 pub mod Bits
 pub mod Closure
 pub mod Drafts
+pub mod Dotted
+pub mod Masked

@@ -4,6 +4,7 @@ mod bits;
 mod closure;
 pub mod draft;
 pub mod letters;
+pub mod masks;
 pub mod sheet;
 
 // A name stands for other symbols, a word for itself; each by its number.

@@ -3,6 +3,7 @@ ghost use mathlib.Core.Path.{_≡_};
 ghost use Prim.Native.Nat.{ℕ, _+_, _<_, _≤_, _^_};
 ghost use lib.ListN.{length, take};
 ghost use Rattle.grammar.specs.Closure.{Nullables};
+ghost use Rattle.grammar.specs.Dotted.{next-name, next-word, first-of, last-of, Marks, Skips};
 ghost use Rattle.grammar.specs.Limits.{Counts, Lefts, Short, Rights, Spelled, Aliased, Placed, Treed};
 
 mod make;
@@ -12,6 +13,7 @@ use super::Alias;
 use super::Rule;
 use super::Spelling;
 use super::Symbol;
+use super::masks::Masks;
 
 #[derive(Drop)]
 pub struct Sheet {
@@ -26,6 +28,7 @@ pub struct Sheet {
     starts: [u16; 129],
     fillers: u64,
     nullable: u32,
+    masks: Masks,
     ghost counts: { Counts «rule_count» «name_count» «word_count» «alias_count» },
     ghost whole: { length (take «rule_count» rules) ≡ «rule_count» },
     ghost lefts: { Lefts «name_count» «rule_count» rules },
@@ -37,4 +40,9 @@ pub struct Sheet {
     ghost filled: { fillers < 2 ^ «word_count» },
     ghost treed: { Treed «name_count» (take «rule_count» rules) },
     ghost nulls: { Nullables (take «rule_count» rules) nullable },
+    ghost named: { Marks next-name (take «rule_count» rules) (masks .«before_name») },
+    ghost worded: { Marks next-word (take «rule_count» rules) (masks .«before_word») },
+    ghost firsts: { Marks first-of (take «rule_count» rules) (masks .first) },
+    ghost lasts: { Marks last-of (take «rule_count» rules) (masks .last) },
+    ghost skips: { Skips (take «rule_count» rules) nullable (masks .«before_nullable») },
 }

@@ -10,6 +10,7 @@ use super::super::Spelling;
 use super::super::closure::nullable_names;
 use super::super::closure::treeless_name;
 use super::super::draft::Draft;
+use super::super::masks::Masks;
 use super::Sheet;
 
 impl Sheet {
@@ -24,8 +25,10 @@ impl Sheet {
         };
         let mut starts = [0; 129];
         starts[1] = 1;
+        let rules = [Rule::EMPTY; 128];
+        let masks = Masks::of(&rules[0..1], 1);
         Sheet {
-            rules: [Rule::EMPTY; 128],
+            rules,
             rule_count: 1,
             names,
             name_count: 1,
@@ -36,6 +39,7 @@ impl Sheet {
             starts,
             fillers: 0,
             nullable: 1,
+            masks,
         }
     }
 
@@ -61,6 +65,7 @@ impl Sheet {
             return Err(a);
         }
         let nullable = nullable_names(listed);
+        let masks = Masks::of(listed, nullable);
         Ok(Sheet {
             rules,
             rule_count,
@@ -73,6 +78,7 @@ impl Sheet {
             starts,
             fillers,
             nullable,
+            masks,
         })
     }
 

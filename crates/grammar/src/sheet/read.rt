@@ -6,11 +6,13 @@ ghost use Prim.Native.Nat.{ℕ, _+_, _<_, _≤_, _^_};
 ghost use lib.ListN.{length, getD, take};
 ghost use Rattle.grammar.specs.Grammar.{places};
 ghost use Rattle.grammar.specs.Closure.{Empties};
-ghost use Rattle.grammar.specs.View.{rules-of, aliases-in};
+ghost use Rattle.grammar.specs.Masked.{Masked};
+ghost use Rattle.grammar.specs.View.{rules-of, words-in, aliases-in};
 use super::super::Alias;
 use super::super::Rule;
 use super::super::Spelling;
 use super::super::bits::holds;
+use super::super::masks::Masks;
 use super::Sheet;
 
 impl Sheet {
@@ -35,11 +37,27 @@ impl Sheet {
         &self.words[0..self.word_count as usize]
     }
 
+    // How many words there are.
+    pub fn word_count(&self) -> u8
+        ensures { λ r. ⌜ r ≡ length (words-in (now (self .entry))) ⌝ }
+    {
+        let listed = &self.words[0..self.word_count as usize];
+        listed.len() as u8
+    }
+
     // The aliases, in their order.
     pub fn aliases(&self) -> &[Alias]
         ensures { λ r. ⌜ now r ≡ aliases-in (now (self .entry)) ⌝ }
     {
         &self.aliases[0..self.alias_count as usize]
+    }
+
+    // The aliases as a table, and how many of it are used.
+    pub fn alias_table(&self) -> ([Alias; 16], u8)
+        ensures used { λ r. ⌜ take (r .1) (r .0) ≡ aliases-in (now (self .entry)) ⌝ }
+        ensures few { λ r. ⌜ r .1 ≤ 16 ⌝ }
+    {
+        (self.aliases, self.alias_count)
     }
 
     // The filler words, a bit for each.
@@ -55,6 +73,13 @@ impl Sheet {
     {
         let set = self.nullable;
         a < 32 && holds(set, a)
+    }
+
+    // The sets of dotted places.
+    pub fn masks(&self) -> &Masks
+        ensures { λ r. ⌜ Masked (rules-of (now (self .entry))) (now (self .entry) .nullable) (now r) ⌝ }
+    {
+        &self.masks
     }
 
     // The first dotted place of each rule, and after them how many places there are.
