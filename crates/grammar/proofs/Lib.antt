@@ -6,5 +6,6 @@ pub mod Fronts
 pub mod Lone
 pub mod Masking
 pub mod Places
+pub mod Plains
 pub mod Pushed
 pub mod Views

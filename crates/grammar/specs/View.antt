@@ -7,8 +7,8 @@ use Rattle.grammar.specs.declared.sheet.Sheet.{Sheet}
 use Rattle.grammar.specs.declared.Symbol.{Symbol}
 use Rattle.grammar.specs.declared.Rule.{Rule}
 use Rattle.grammar.specs.declared.Alias.{Alias}
-use Rattle.grammar.specs.declared.Spelling.{Spelling}
 use Rattle.grammar.specs.Grammar.{Grammar, no-rule, right}
+use Rattle.grammar.specs.Limits.{texts}
 
 abbrev pub rules-of : Sheet → List Rule
 rules-of s = take (s .«rule_count») (s .rules)
@@ -16,14 +16,6 @@ rules-of s = take (s .«rule_count») (s .rules)
 -- the left name of the first rule is the start
 abbrev pub grammar-of : Sheet → Grammar
 grammar-of s = record { rules = rules-of s; start = getD (rules-of s) 0 no-rule .left }
-
--- the bytes that a spelling stands for
-abbrev pub text : Spelling → List ℕ
-text p = take (p .len) (p .bytes)
-
--- the first n spellings
-abbrev pub texts : ℕ → List Spelling → List (List ℕ)
-texts n spellings = map text (take n spellings)
 
 abbrev pub names-in : Sheet → List (List ℕ)
 names-in s = texts (s .«name_count») (s .names)

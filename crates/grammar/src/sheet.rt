@@ -4,7 +4,8 @@ ghost use Prim.Native.Nat.{ℕ, _+_, _<_, _≤_, _^_};
 ghost use lib.ListN.{length, take};
 ghost use Rattle.grammar.specs.Closure.{Nullables};
 ghost use Rattle.grammar.specs.Dotted.{next-name, next-word, first-of, last-of, Marks, Skips};
-ghost use Rattle.grammar.specs.Limits.{Counts, Lefts, Short, Rights, Spelled, Aliased, Placed, Treed};
+ghost use Rattle.grammar.specs.Letters.{name-spelled, word-spelled};
+ghost use Rattle.grammar.specs.Limits.{Counts, Lefts, Short, Rights, texts, Lettered, Brief, Apart, Aliased, Placed, Treed};
 
 mod make;
 mod read;
@@ -34,7 +35,12 @@ pub struct Sheet {
     ghost lefts: { Lefts «name_count» «rule_count» rules },
     ghost short: { Short «rule_count» rules },
     ghost rights: { Rights «name_count» «word_count» «rule_count» rules },
-    ghost spelled: { Spelled «name_count» names × Spelled «word_count» words },
+    ghost lettered_names: { Lettered name-spelled «name_count» names },
+    ghost lettered_words: { Lettered word-spelled «word_count» words },
+    ghost brief_names: { Brief «name_count» names },
+    ghost brief_words: { Brief «word_count» words },
+    ghost apart_names: { ∥ Apart (texts «name_count» names) ∥₁ },
+    ghost apart_words: { ∥ Apart (texts «word_count» words) ∥₁ },
     ghost aliased: { Aliased «word_count» «alias_count» aliases },
     ghost placed: { Placed rules «rule_count» starts },
     ghost filled: { fillers < 2 ^ «word_count» },

@@ -1,6 +1,6 @@
 use mathlib.Core.Path.{sym, _∙_, ap}
 use lib.ListN.{length, take, length-map}
-use Rattle.grammar.specs.View.{text}
+use Rattle.grammar.specs.Limits.{text}
 use Rattle.grammar.proofs.Fronts.{take-sub-zero}
 use Rattle.grammar.proofs.sheet.Sheet.word_count.Needs as need
 
