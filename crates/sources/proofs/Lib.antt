@@ -1,0 +1,7 @@
+pub mod Alike
+pub mod Begun
+pub mod Bytes
+pub mod First
+pub mod Layers
+pub mod Scans
+pub mod Stretches
