@@ -1,0 +1,42 @@
+// A tour of one task: a command sheet on standard input, read to its end, each step printed.
+mod faulted;
+mod overview;
+
+use faulted::show_fault;
+use grammar::sheet::Sheet;
+use overview::show_sheet;
+use sheets::load::load;
+use std::io;
+use std::io::Read;
+
+// The sheet is what stands before the first empty line.
+fn sheet_end(input: &[u8]) -> usize {
+    let mut after_end = true;
+    for (i, b) in input.iter().enumerate() {
+        if *b == b'\n' && after_end {
+            return i;
+        }
+        after_end = *b == b'\n';
+    }
+    input.len()
+}
+
+fn main(rt: LibcRuntime) -> io::Result<()> {
+    let mut input = Vec::new(rt.alloc());
+    rt.stdin().read_to_end(&mut input)?;
+    let bytes = input.as_slice();
+    let end = sheet_end(bytes);
+    let text = bytes.get(0..end).unwrap_or(bytes);
+    if text.is_empty() {
+        eprintln!(
+            rt,
+            "expected a command sheet on standard input: lines of rule, alias and filler"
+        )?;
+    }
+    let mut sheet = Sheet::blank();
+    println!(rt, "a sheet of {} bytes", text.len())?;
+    match load(text, &mut sheet) {
+        Ok(()) => show_sheet(&rt, &sheet),
+        Err(fault) => show_fault(&rt, fault),
+    }
+}
