@@ -5,9 +5,9 @@ ghost use mathlib.Core.Logic.{_↔_};
 ghost use Prim.Native.Nat.{ℕ, _+_, _<_, _≤_, _^_};
 ghost use lib.ListN.{length, getD, take};
 ghost use Rattle.grammar.specs.Grammar.{places};
-ghost use Rattle.grammar.specs.Closure.{Empties};
+ghost use Rattle.grammar.specs.Closure.{Empties, HasTree};
 ghost use Rattle.grammar.specs.Masked.{Masked};
-ghost use Rattle.grammar.specs.View.{rules-of, words-in, aliases-in};
+ghost use Rattle.grammar.specs.View.{rules-of, names-in, words-in, aliases-in};
 use super::super::Alias;
 use super::super::Rule;
 use super::super::Spelling;
@@ -80,6 +80,13 @@ impl Sheet {
         ensures { λ r. ⌜ Masked (rules-of (now (self .entry))) (now (self .entry) .nullable) (now r) ⌝ }
     {
         &self.masks
+    }
+
+    // Every name of a sheet has a tree: what the type keeps, for callers to cite.
+    pub fn every_name_has_a_tree(&self) -> u8
+        ensures { λ _. ⌜ ((a : ℕ) → a < length (names-in (now (self .entry))) → HasTree (rules-of (now (self .entry))) a) ⌝ }
+    {
+        0
     }
 
     // The first dotted place of each rule, and after them how many places there are.
