@@ -83,6 +83,14 @@ module _ (rules : List Rule) (i : ℕ) (listed : i < length rules) where
   pub room-rule : (start : ℕ) → places (take i rules) ≡ start → places rules ≤ 256 → start + getD rules i no-rule .len < 256
   room-rule start e l = omega (arith, places-more rules i listed, places-front rules (suc i))
 
+-- once every rule is in, there are as many places as the rules say
+pub fitting : (rules : List Rule) (i start : ℕ) → length rules ≤ i → places (take i rules) ≡ start → length (dotted (take i rules)) ≡ start → places rules ≤ 256 → length (dotted rules) ≤ 256
+fitting rules i start h p d l =
+    let all = take-all i rules h in
+    let e = ap places all in
+    let f = ap (λ rs. length (dotted rs)) all in
+    omega arith
+
 pub masked : (rules : List Rule) (i set : ℕ) (m : Masks) → length rules ≤ i → Held (dotted (take i rules)) set m → Masked rules set m
 masked rules i set m h held =
     let all = subst (λ rs. Held (dotted rs) set m) (take-all i rules h) held in

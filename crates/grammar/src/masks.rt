@@ -6,7 +6,7 @@ ghost use lib.ListN.{length};
 ghost use Rattle.std.specs.declared.option.Option.the-variants.{Some};
 ghost use Rattle.grammar.specs.Grammar.{right, places, Counted, Formed};
 ghost use Rattle.grammar.specs.Closure.{AllFormed};
-ghost use Rattle.grammar.specs.Dotted.{Place, dots, leading-name, leading-word, among};
+ghost use Rattle.grammar.specs.Dotted.{Place, dots, dotted, leading-name, leading-word, among};
 ghost use Rattle.grammar.specs.Masked.{Masked, Held, Joins, Marked, Grown, spot};
 use super::Rule;
 use super::Symbol;
@@ -103,7 +103,8 @@ impl Masks {
     pub(crate) fn of(rules: &[Rule], nullable: u32) -> Masks
         requires { ⌜ AllFormed 32 64 (now rules) ⌝ }
         requires { ⌜ places (now rules) ≤ 256 ⌝ }
-        ensures { λ m. ⌜ Masked (now (rules .entry)) nullable m ⌝ }
+        ensures masked { λ m. ⌜ Masked (now (rules .entry)) nullable m ⌝ }
+        ensures fitting { λ _. ⌜ length (dotted (now (rules .entry))) ≤ 256 ⌝ }
     {
         let mut masks = Masks::none();
         let mut start = 0;

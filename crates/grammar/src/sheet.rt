@@ -3,7 +3,7 @@ ghost use mathlib.Core.Path.{_≡_};
 ghost use Prim.Native.Nat.{ℕ, _+_, _<_, _≤_, _^_};
 ghost use lib.ListN.{length, take};
 ghost use Rattle.grammar.specs.Closure.{Nullables};
-ghost use Rattle.grammar.specs.Dotted.{next-name, next-word, first-of, last-of, Marks, Skips};
+ghost use Rattle.grammar.specs.Dotted.{dotted, next-name, next-word, first-of, last-of, Marks, Skips};
 ghost use Rattle.grammar.specs.Letters.{name-spelled, word-spelled};
 ghost use Rattle.grammar.specs.Limits.{Counts, Lefts, Short, Rights, texts, Lettered, Brief, Apart, Aliased, Placed, Treed};
 
@@ -51,4 +51,5 @@ pub struct Sheet {
     ghost firsts: { Marks first-of (take «rule_count» rules) (masks .first) },
     ghost lasts: { Marks last-of (take «rule_count» rules) (masks .last) },
     ghost skips: { Skips (take «rule_count» rules) nullable (masks .«before_nullable») },
+    ghost fitting: { length (dotted (take «rule_count» rules)) ≤ 256 },
 }

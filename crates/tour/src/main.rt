@@ -1,9 +1,11 @@
-// A tour of one task: a command sheet on standard input, read to its end, each step printed.
+// A tour of one task: a command sheet and messages on standard input, read to their end, each step printed.
 mod faulted;
+mod messages;
 mod overview;
 
 use faulted::show_fault;
 use grammar::sheet::Sheet;
+use messages::show_messages;
 use overview::show_sheet;
 use sheets::load::load;
 use std::io;
@@ -30,13 +32,16 @@ fn main(rt: LibcRuntime) -> io::Result<()> {
     if text.is_empty() {
         eprintln!(
             rt,
-            "expected a command sheet on standard input: lines of rule, alias and filler"
+            "expected on standard input a command sheet, an empty line, and messages, one a line"
         )?;
     }
     let mut sheet = Sheet::blank();
     println!(rt, "a sheet of {} bytes", text.len())?;
     match load(text, &mut sheet) {
-        Ok(()) => show_sheet(&rt, &sheet),
+        Ok(()) => {
+            show_sheet(&rt, &sheet)?;
+            show_messages(&rt, &sheet, bytes.get(end + 1..).unwrap_or(&[]))
+        }
         Err(fault) => show_fault(&rt, fault),
     }
 }

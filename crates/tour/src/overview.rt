@@ -13,7 +13,7 @@ fn show_spelling(rt: &impl Print, spelling: &Spelling) -> io::Result<()> {
 }
 
 // A name or a word by its number; the sheet lists every number that it holds.
-fn show_numbered(rt: &impl Print, spellings: &[Spelling], number: u8) -> io::Result<()> {
+pub fn show_numbered(rt: &impl Print, spellings: &[Spelling], number: u8) -> io::Result<()> {
     match spellings.get(number as usize) {
         Some(spelling) => show_spelling(rt, spelling),
         None => Ok(()),

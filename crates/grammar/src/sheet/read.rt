@@ -7,7 +7,7 @@ ghost use lib.ListN.{length, getD, take};
 ghost use Rattle.grammar.specs.Grammar.{places};
 ghost use Rattle.grammar.specs.Closure.{Empties, HasTree};
 ghost use Rattle.grammar.specs.Masked.{Masked};
-ghost use Rattle.grammar.specs.View.{rules-of, names-in, words-in, aliases-in};
+ghost use Rattle.grammar.specs.View.{rules-of, grammar-of, names-in, words-in, aliases-in};
 use super::super::Alias;
 use super::super::Rule;
 use super::super::Spelling;
@@ -28,6 +28,22 @@ impl Sheet {
         ensures { λ r. ⌜ now r ≡ take (now (self .entry) .«name_count») (now (self .entry) .names) ⌝ }
     {
         &self.names[0..self.name_count as usize]
+    }
+
+    // How many names there are.
+    pub fn name_count(&self) -> u8
+        ensures is { λ r. ⌜ r ≡ now (self .entry) .«name_count» ⌝ }
+        ensures few { λ r. ⌜ r ≤ 32 ⌝ }
+    {
+        self.name_count
+    }
+
+    // The name that commands start from.
+    pub fn start(&self) -> u8
+        ensures is { λ r. ⌜ r ≡ grammar-of (now (self .entry)) .start ⌝ }
+        ensures low { λ r. ⌜ r < 32 ⌝ }
+    {
+        self.rules[0].left
     }
 
     // The words, by their numbers.

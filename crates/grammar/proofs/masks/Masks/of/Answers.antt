@@ -2,7 +2,7 @@ use mathlib.Core.Path.{refl}
 use native.Mathlib.Omega.{arith}
 use lib.ListN.{take}
 use Rattle.grammar.specs.Dotted.{dotted}
-use Rattle.grammar.proofs.Dots.{held-rule, length-rule, places-rule, room-rule, masked}
+use Rattle.grammar.proofs.Dots.{held-rule, length-rule, places-rule, room-rule, masked, fitting}
 use Rattle.grammar.proofs.masks.Masks.of.Needs as need
 
 pub loop-rule-holds : need.loop-rule-holds
@@ -31,4 +31,9 @@ loop-rule-again c =
     )
 
 pub returns : need.returns
-returns c = masked (c .args .rules .now) (c .loop-rule .rule-index) (c .args .nullable) (c .loop-rule .masks) (c .loop-rule-test .left) (c .loop-rule .inv .2)
+returns c =
+    let inv = c .loop-rule .inv in
+    record {
+      masked = masked (c .args .rules .now) (c .loop-rule .rule-index) (c .args .nullable) (c .loop-rule .masks) (c .loop-rule-test .left) (inv .2);
+      fitting = fitting (c .args .rules .now) (c .loop-rule .rule-index) (c .loop-rule .start) (c .loop-rule-test .left) (inv .0) (inv .1) (c .pre .1);
+    }

@@ -1,0 +1,16 @@
+pub mod Rows
+pub mod Contexts
+pub mod Offering
+pub mod Closing
+pub mod Dues
+pub mod Stated
+pub mod Placing
+pub mod Dotting
+pub mod Marking
+pub mod Sheets
+pub mod Spots
+pub mod Closures
+pub mod Storing
+pub mod Gathering
+pub mod Filled
+pub mod Shows

@@ -1,0 +1,3 @@
+pub mod Sets
+pub mod Related
+pub mod Cells
