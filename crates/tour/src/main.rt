@@ -40,7 +40,8 @@ fn main(rt: LibcRuntime) -> io::Result<()> {
     match load(text, &mut sheet) {
         Ok(()) => {
             show_sheet(&rt, &sheet)?;
-            show_messages(&rt, &sheet, bytes.get(end + 1..).unwrap_or(&[]))
+            let rest = bytes.get(end..).unwrap_or(&[]);
+            show_messages(&rt, &sheet, rest.get(1..).unwrap_or(&[]))
         }
         Err(fault) => show_fault(&rt, fault),
     }
