@@ -11,7 +11,8 @@ use Rattle.grammar.specs.declared.Rule.{Rule}
 use Rattle.grammar.specs.declared.masks.Masks.{Masks}
 use Rattle.grammar.specs.Grammar.{no-rule, right, places}
 use Rattle.grammar.specs.Dotted.{Place, dots, dotted}
-use Rattle.grammar.specs.Masked.{Masked, Held, Grown, spot}
+use Rattle.grammar.specs.Masked.{Masked}
+use Rattle.grammar.specs.inner.Marking.{Held, Grown, spot}
 use Rattle.grammar.proofs.Places.{places-more, places-front}
 use Rattle.grammar.proofs.Masking.{held-more}
 

@@ -18,7 +18,7 @@ use Rattle.grammar.specs.declared.Rule.{Rule}
 use Rattle.grammar.specs.declared.masks.Masks.{Masks}
 use Rattle.grammar.specs.Grammar.{right}
 use Rattle.grammar.specs.Dotted.{Place, next-name, next-word, first-of, last-of, leading-name, leading-word, where-none, is, among, no-items}
-use Rattle.grammar.specs.Masked.{Holds, Keyed, Held, Joins, Marked, Grown, spot}
+use Rattle.grammar.specs.inner.Marking.{Holds, Keyed, Held, Joins, Marked, Grown, spot}
 use Rattle.grammar.proofs.Closures.{drop-take-cons}
 
 -- ---- no places

@@ -2,9 +2,9 @@ pub mod Letters
 pub mod Grammar
 pub mod Trees
 pub mod Limits
-pub mod View
-pub mod Bits
 pub mod Closure
-pub mod Drafts
+pub mod Bits
 pub mod Dotted
 pub mod Masked
+pub mod View
+pub mod inner

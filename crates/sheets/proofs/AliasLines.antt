@@ -17,7 +17,7 @@ use Rattle.std.proofs.shelf.Tests.{cases-eq, or-left, eq-eqb, ne-eqb, cases-boo
 use Rattle.grammar.specs.declared.Alias.{Alias}
 use Rattle.grammar.specs.declared.draft.Draft.{Draft}
 use Rattle.grammar.specs.Bits.{has}
-use Rattle.grammar.specs.Drafts.{Renamed}
+use Rattle.grammar.specs.inner.Drafts.{Renamed}
 use Rattle.grammar.specs.Limits.{no-alias}
 use Rattle.grammar.proofs.Fronts.{take-sub-zero}
 use Rattle.sheets.specs.Lines.{Line, rule, alias, filler}

@@ -11,7 +11,7 @@ use Rattle.std.proofs.shelf.Lists.{append-nil, map-push}
 use Rattle.grammar.specs.declared.Rule.{Rule}
 use Rattle.grammar.specs.declared.draft.Draft.{Draft}
 use Rattle.grammar.specs.Bits.{has}
-use Rattle.grammar.specs.Drafts.{Added, Overfull}
+use Rattle.grammar.specs.inner.Drafts.{Added, Overfull}
 use Rattle.sheets.specs.Lines.{Spelled, Line, rule}
 use Rattle.sheets.specs.Spellings.{names-among, words-among, member, with-one, with-all, names-of, words-of}
 use Rattle.sheets.specs.Limits.{number, renamings, fillers-of, Room, Small}

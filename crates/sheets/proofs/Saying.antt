@@ -7,7 +7,7 @@ use Rattle.grammar.specs.declared.draft.Draft.{Draft}
 use Rattle.grammar.specs.declared.sheet.Sheet.{Sheet}
 use Rattle.grammar.specs.Bits.{has}
 use Rattle.grammar.specs.Closure.{AllFormed, LowestTreeless}
-use Rattle.grammar.specs.Drafts.{Kept, Lowest, listed}
+use Rattle.grammar.specs.inner.Drafts.{Kept, Lowest, listed}
 use Rattle.grammar.proofs.Fronts.{formed-front}
 use Rattle.sheets.specs.Lines.{Line}
 use Rattle.sheets.specs.Spellings.{names-of, words-of}

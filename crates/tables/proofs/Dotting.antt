@@ -16,7 +16,7 @@ use Rattle.grammar.specs.declared.Symbol.{Symbol}
 use Rattle.grammar.specs.declared.Rule.{Rule}
 use Rattle.grammar.specs.Grammar.{no-rule, right}
 use Rattle.grammar.specs.Dotted.{Place, dots, dotted, key-at}
-use Rattle.grammar.specs.Masked.{spot}
+use Rattle.grammar.specs.inner.Marking.{spot}
 use Rattle.grammar.proofs.Dots.{length-dots}
 use Rattle.tables.specs.Columns.{first-place}
 use Rattle.tables.proofs.Placing.{place-below}

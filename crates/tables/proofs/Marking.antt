@@ -20,7 +20,8 @@ use Rattle.grammar.specs.Grammar.{Grammar, rule, right}
 use Rattle.grammar.specs.Bits.{has}
 use Rattle.grammar.specs.Closure.{Nullables}
 use Rattle.grammar.specs.Dotted.{dotted, leading-name, leading-word, where-none, next-name, next-word, first-of, last-of, is, among}
-use Rattle.grammar.specs.Masked.{Masked, spot}
+use Rattle.grammar.specs.Masked.{Masked}
+use Rattle.grammar.specs.inner.Marking.{spot}
 use Rattle.tables.specs.Table.{At}
 use Rattle.tables.specs.Columns.{first-place}
 use Rattle.tables.specs.inner.Sets.{Spot, Marked}

@@ -2,7 +2,7 @@
 ghost use mathlib.Core.Path.{_≡_};
 ghost use Prim.Native.Nat.{ℕ, _+_, _<_, _≤_, _^_};
 ghost use Rattle.std.specs.declared.result.Result.the-variants.{Ok, Err};
-ghost use Rattle.grammar.specs.Drafts.{Kept, Lowest};
+ghost use Rattle.grammar.specs.inner.Drafts.{Kept, Lowest};
 ghost use Rattle.grammar.specs.View.{Blank};
 use super::super::Alias;
 use super::super::Rule;

@@ -4,7 +4,7 @@ use Prim.Native.Nat.{_<_}
 use lib.ListN.{length, take}
 use Rattle.grammar.specs.Grammar.{right}
 use Rattle.grammar.specs.Dotted.{Place, dots}
-use Rattle.grammar.specs.Masked.{Held}
+use Rattle.grammar.specs.inner.Marking.{Held}
 use Rattle.grammar.proofs.masks.Masks.add_rule.Given as given
 
 -- the first k places are in; each tells that the right side is as long as the rule says

@@ -2,7 +2,7 @@ use mathlib.Core.Path.{_≡_}
 use lib.ListN.{length, take}
 use Rattle.grammar.specs.Grammar.{places}
 use Rattle.grammar.specs.Dotted.{dotted}
-use Rattle.grammar.specs.Masked.{Held}
+use Rattle.grammar.specs.inner.Marking.{Held}
 use Rattle.grammar.proofs.masks.Masks.of.Given as given
 
 -- the places of the rules so far are in, and `start` is their number
