@@ -55,7 +55,7 @@ triangle-less j (suc b) l =
 cell-is : (i j : ℕ) → cell i j ≡ triangle j + i
 cell-is i j = let e = triangle-is j in omega arith
 
-cells-apart : (i j a b : ℕ) → i ≤ j → j < b → cell i j < cell a b
+pub cells-apart : (i j a b : ℕ) → i ≤ j → j < b → cell i j < cell a b
 cells-apart i j a b o l =
     let p : cell i j ≡ triangle j + i = cell-is i j in
     let q : cell a b ≡ triangle b + a = cell-is a b in

@@ -1,0 +1,12 @@
+pub mod Bits
+pub mod Clearing
+pub mod Columns
+pub mod Keeping
+pub mod Listening
+pub mod Parts
+pub mod Records
+pub mod Rows
+pub mod Sameness
+pub mod SeatLent
+pub mod Single
+pub mod TableLent

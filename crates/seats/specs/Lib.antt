@@ -1,0 +1,5 @@
+pub mod Seats
+pub mod Standing
+pub mod Answers
+pub mod Calls
+pub mod inner
