@@ -1,4 +1,5 @@
 // A tour of one task: a command sheet and messages on standard input, read to their end, each step printed.
+mod columns;
 mod faulted;
 mod messages;
 mod overview;
@@ -7,6 +8,7 @@ use faulted::show_fault;
 use grammar::sheet::Sheet;
 use messages::show_messages;
 use overview::show_sheet;
+use seats::calls::open;
 use sheets::load::load;
 use std::io;
 use std::io::Read;
@@ -41,7 +43,9 @@ fn main(rt: LibcRuntime) -> io::Result<()> {
         Ok(()) => {
             show_sheet(&rt, &sheet)?;
             let rest = bytes.get(end..).unwrap_or(&[]);
-            show_messages(&rt, &sheet, rest.get(1..).unwrap_or(&[]))
+            let mut hall = vec![in rt.alloc(); 0u64; 3780]?;
+            let _ = open(&sheet, &mut hall);
+            show_messages(&rt, &sheet, &mut hall, rest.get(1..).unwrap_or(&[]))
         }
         Err(fault) => show_fault(&rt, fault),
     }

@@ -1,4 +1,5 @@
-// What is printed of messages: their runs, and their words after each layer.
+// What is printed of messages: their runs, their words after each layer, and their table at a seat.
+use super::columns::show_filling;
 use super::faulted::show_fault;
 use super::overview::show_numbered;
 use grammar::sheet::Sheet;
@@ -67,25 +68,48 @@ fn show_layers<'a>(rt: &impl Print, sheet: &'a Sheet, message: &'a [u8]) -> io::
     }
 }
 
-fn show_message(rt: &impl Print, sheet: &Sheet, message: &[u8]) -> io::Result<()> {
+fn show_seat<'a>(
+    rt: &impl Print,
+    sheet: &'a Sheet,
+    hall: &mut [u64],
+    message: &'a [u8],
+) -> io::Result<()> {
+    match pile(sheet, message) {
+        Ok(pile) => show_filling(rt, sheet, hall, pile),
+        Err(fault) => show_fault(rt, fault),
+    }
+}
+
+fn show_message(
+    rt: &impl Print,
+    sheet: &Sheet,
+    hall: &mut [u64],
+    message: &[u8],
+) -> io::Result<()> {
     print!(rt, "message \"")?;
     show_bytes(rt, message)?;
     print!(rt, "\"")?;
     show_runs(rt, message)?;
-    show_layers(rt, sheet, message)
+    show_layers(rt, sheet, message)?;
+    show_seat(rt, sheet, hall, message)
 }
 
 // One message a line; the last may lack its end.
-pub fn show_messages(rt: &impl Print, sheet: &Sheet, lines: &[u8]) -> io::Result<()> {
+pub fn show_messages(
+    rt: &impl Print,
+    sheet: &Sheet,
+    hall: &mut [u64],
+    lines: &[u8],
+) -> io::Result<()> {
     let mut start = 0;
     for (i, b) in lines.iter().enumerate() {
         if *b == b'\n' {
-            show_message(rt, sheet, lines.get(start..i).unwrap_or(&[]))?;
+            show_message(rt, sheet, hall, lines.get(start..i).unwrap_or(&[]))?;
             start = i + 1;
         }
     }
     match lines.get(start..) {
-        Some(last) if !last.is_empty() => show_message(rt, sheet, last),
+        Some(last) if !last.is_empty() => show_message(rt, sheet, hall, last),
         _ => Ok(()),
     }
 }

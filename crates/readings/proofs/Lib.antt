@@ -1,0 +1,15 @@
+pub mod Chosen
+pub mod Cuts
+pub mod Derived
+pub mod Fills
+pub mod Laws
+pub mod Least
+pub mod Offering
+pub mod Optimal
+pub mod Places
+pub mod Readings
+pub mod Rows
+pub mod Sheets
+pub mod Stretches
+pub mod Turns
+pub mod Walks

@@ -1,0 +1,4 @@
+pub mod Scales
+pub mod Prices
+pub mod Cheapest
+pub mod inner

@@ -1,0 +1,10 @@
+pub mod Least
+pub mod Stretches
+pub mod Cuts
+pub mod Tables
+pub mod Columns
+pub mod Candidates
+pub mod Filling
+pub mod Walks
+pub mod Places
+pub mod Stages
