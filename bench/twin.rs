@@ -9,7 +9,6 @@ pub enum Symbol {
 }
 
 pub struct Rule {
-    pub weight: u16,
     pub left: usize,
     pub symbols: Vec<Symbol>,
 }
@@ -78,7 +77,7 @@ impl Twin {
                         }
                     })
                     .collect();
-                rules.push(Rule { weight: fields[1].parse().unwrap(), left, symbols });
+                rules.push(Rule { left, symbols });
             } else {
                 for s in &fields[1..] {
                     number(&mut words, s);
@@ -209,10 +208,6 @@ impl Twin {
             joint = or(joint, cell(table, i, n));
         }
         (0..64).filter(|w| meets(joint, self.before_word[*w])).fold(0, |mask, w| mask | 1 << w)
-    }
-
-    pub fn is_command(&self, table: &[u64], n: usize) -> bool {
-        meets(cell(table, 0, n), self.last[self.rules[0].left])
     }
 
     pub fn clear(&self, hall: &mut [u64], seat: usize) {

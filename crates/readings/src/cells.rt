@@ -9,7 +9,7 @@ ghost use Rattle.readings.specs.inner.Places.{place, tabled, table};
 use super::scale::Scale;
 
 // Where the table has the name a over (i, j).
-pub fn find_place(i: usize, j: usize, a: usize) -> usize
+pub(crate) fn find_place(i: usize, j: usize, a: usize) -> usize
     requires { ⌜ (i ≤ j) × (j ≤ 20) × (a < 32) ⌝ }
     ensures { λ r. ⌜ (r ≡ place i j a) × (r < 7392) ⌝ }
 {
@@ -17,7 +17,7 @@ pub fn find_place(i: usize, j: usize, a: usize) -> usize
 }
 
 // Whether the table has a price for the name a over (i, j).
-pub fn has_price<S: Scale>(
+pub(crate) fn has_price<S: Scale>(
     prices: &[S::Price],
     numbers: &[u32],
     i: usize,
@@ -32,7 +32,7 @@ pub fn has_price<S: Scale>(
 }
 
 // The price of the name a over (i, j), if the table has one.
-pub fn price_of<S: Scale>(
+pub(crate) fn price_of<S: Scale>(
     prices: &[S::Price],
     numbers: &[u32],
     i: usize,
@@ -51,7 +51,7 @@ pub fn price_of<S: Scale>(
 }
 
 // The rank of the name a over (i, j).
-pub fn rank_of(numbers: &[u32], i: usize, j: usize, a: usize) -> usize
+pub(crate) fn rank_of(numbers: &[u32], i: usize, j: usize, a: usize) -> usize
     requires { ⌜ (i ≤ j) × (j ≤ 20) × (a < 32) × (7392 ≤ length (now numbers)) ⌝ }
     ensures { λ r. ⌜ r ≡ tabled (now (numbers .entry)) i j a / 256 ⌝ }
 {
@@ -59,7 +59,7 @@ pub fn rank_of(numbers: &[u32], i: usize, j: usize, a: usize) -> usize
 }
 
 // The rule of the name a over (i, j).
-pub fn rule_of(numbers: &[u32], i: usize, j: usize, a: usize) -> usize
+pub(crate) fn rule_of(numbers: &[u32], i: usize, j: usize, a: usize) -> usize
     requires { ⌜ (i ≤ j) × (j ≤ 20) × (a < 32) × (7392 ≤ length (now numbers)) ⌝ }
     ensures { λ r. ⌜ r ≡ tabled (now (numbers .entry)) i j a % 256 - 1 ⌝ }
 {
@@ -67,7 +67,7 @@ pub fn rule_of(numbers: &[u32], i: usize, j: usize, a: usize) -> usize
 }
 
 // The name a gets the price p over (i, j), by the rule r, as the k-th there.
-pub fn put_price<S: Scale>(
+pub(crate) fn put_price<S: Scale>(
     prices: &mut [S::Price],
     numbers: &mut [u32],
     i: usize,
@@ -86,7 +86,7 @@ pub fn put_price<S: Scale>(
 }
 
 // No name has a price.
-pub fn clear(numbers: &mut [u32])
+pub(crate) fn clear(numbers: &mut [u32])
     requires { ⌜ 7392 ≤ length (now numbers) ⌝ }
     ensures { λ _. ⌜ ((x : ℕ) → x < 7392 → getD (now (numbers .exit)) x 0 ≡ 0) ⌝ }
 {

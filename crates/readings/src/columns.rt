@@ -9,7 +9,11 @@ ghost use Rattle.readings.specs.inner.Columns.{marked, Written};
 use super::scale::Scale;
 
 // The column's price at n, if it is marked.
-pub fn read_column<S: Scale>(column: &[S::Price], marks: &[bool], n: usize) -> Option<S::Price>
+pub(crate) fn read_column<S: Scale>(
+    column: &[S::Price],
+    marks: &[bool],
+    n: usize,
+) -> Option<S::Price>
     requires { ⌜ (n < length (now column)) × (n < length (now marks)) ⌝ }
     ensures { λ r. ⌜ r ≡ marked (S·Scale .measure) (now (column .entry)) (now (marks .entry)) n ⌝ }
 {
@@ -17,7 +21,7 @@ pub fn read_column<S: Scale>(column: &[S::Price], marks: &[bool], n: usize) -> O
 }
 
 // The column's price at n becomes p, marked if it is there.
-pub fn write_column<S: Scale>(
+pub(crate) fn write_column<S: Scale>(
     column: &mut [S::Price],
     marks: &mut [bool],
     n: usize,
@@ -43,7 +47,7 @@ fn end_price<S: Scale>(n: usize, j: usize) -> Option<S::Price>
 }
 
 // The cuts of no symbols: only from j to j.
-pub fn end_column<S: Scale>(i: usize, j: usize, column: &mut [S::Price], marks: &mut [bool])
+pub(crate) fn end_column<S: Scale>(i: usize, j: usize, column: &mut [S::Price], marks: &mut [bool])
     requires { ⌜ (i ≤ j) × (j ≤ 20) × (20 < length (now column)) × (20 < length (now marks)) ⌝ }
     ensures { λ _. ⌜ ((n : ℕ) → i ≤ n → n ≤ j → marked (S·Scale .measure) (now (column .exit)) (now (marks .exit)) n ≡ cond (eqb n j) (Some (S·Scale .measure .unit)) None) ⌝ }
 {

@@ -19,7 +19,7 @@ use grammar::Rule;
 use grammar::Symbol;
 
 // The price of a symbol from m to n, where over (i, j) itself only names of a rank below k count.
-pub fn symbol_price<S: Scale>(
+pub(crate) fn symbol_price<S: Scale>(
     ground: Ground<S::Price>,
     cell: Cell,
     x: Symbol,
@@ -98,7 +98,7 @@ fn prepend<S: Scale>(
 }
 
 // The cheapest cuts of the rule's symbols from the d-th on, from every position from i to j.
-pub fn cut_from<S: Scale>(
+pub(crate) fn cut_from<S: Scale>(
     ground: Ground<S::Price>,
     cell: Cell,
     rule: &Rule,

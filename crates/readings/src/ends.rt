@@ -49,7 +49,7 @@ fn choose<S: Scale>(
 }
 
 // Where the stretch of the rule's d-th symbol ends in a cheapest cut from m to j.
-pub fn find_end<S: Scale>(
+pub(crate) fn find_end<S: Scale>(
     ground: Ground<S::Price>,
     cell: Cell,
     rule: &Rule,

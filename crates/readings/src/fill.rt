@@ -135,7 +135,7 @@ fn fill_column<S: Scale>(
 }
 
 // The table of the first n words.
-pub fn fill_table<S: Scale>(
+pub(crate) fn fill_table<S: Scale>(
     rules: &[Rule],
     words: &[u8],
     prices: &mut [S::Price],

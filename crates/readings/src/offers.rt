@@ -64,7 +64,7 @@ fn offer_of<S: Scale>(
 }
 
 // Every rule's offer, each at the rule's number.
-pub fn offer_all<S: Scale>(
+pub(crate) fn offer_all<S: Scale>(
     rules: &[Rule],
     ground: Ground<S::Price>,
     cell: Cell,
@@ -110,7 +110,7 @@ fn touches(rule: &Rule, a: usize) -> bool
 }
 
 // Prices the rules anew that the name a touches, after it has got its price over (i, j).
-pub fn reprice<S: Scale>(
+pub(crate) fn reprice<S: Scale>(
     rules: &[Rule],
     ground: Ground<S::Price>,
     cell: Cell,
@@ -141,7 +141,11 @@ pub struct Pick<P> {
 }
 
 // The cheapest of the first n offers.
-pub fn cheapest_offer<S: Scale>(offers: &[S::Price], offered: &[bool], n: usize) -> Pick<S::Price>
+pub(crate) fn cheapest_offer<S: Scale>(
+    offers: &[S::Price],
+    offered: &[bool],
+    n: usize,
+) -> Pick<S::Price>
     requires { ⌜ (n ≤ length (now offers)) × (n ≤ length (now offered)) ⌝ }
     ensures { λ p. ⌜ Foremost (S·Scale .measure) (marked (S·Scale .measure) (now (offers .entry)) (now (offered .entry))) n (p .rule) (p .price) ⌝ }
 {

@@ -5,7 +5,7 @@ ghost use Rattle.readings.specs.inner.Least.{cheaper, joined};
 use super::scale::Scale;
 
 // The cheaper of two prices, the first where they are alike.
-pub fn pick_cheaper<S: Scale>(a: Option<S::Price>, b: Option<S::Price>) -> Option<S::Price>
+pub(crate) fn pick_cheaper<S: Scale>(a: Option<S::Price>, b: Option<S::Price>) -> Option<S::Price>
     ensures { λ r. ⌜ r ≡ cheaper (S·Scale .measure) a b ⌝ }
 {
     match a {
@@ -18,7 +18,7 @@ pub fn pick_cheaper<S: Scale>(a: Option<S::Price>, b: Option<S::Price>) -> Optio
 }
 
 // The join of two prices, where both are there.
-pub fn join_both<S: Scale>(a: Option<S::Price>, b: Option<S::Price>) -> Option<S::Price>
+pub(crate) fn join_both<S: Scale>(a: Option<S::Price>, b: Option<S::Price>) -> Option<S::Price>
     ensures { λ r. ⌜ r ≡ joined (S·Scale .measure) a b ⌝ }
 {
     match a {
@@ -31,7 +31,7 @@ pub fn join_both<S: Scale>(a: Option<S::Price>, b: Option<S::Price>) -> Option<S
 }
 
 // Whether the offer is there and cheaper than the best so far.
-pub fn improves<S: Scale>(best: Option<S::Price>, offer: Option<S::Price>) -> bool
+pub(crate) fn improves<S: Scale>(best: Option<S::Price>, offer: Option<S::Price>) -> bool
     ensures no { λ r. ⌜ (r ≡ false → cheaper (S·Scale .measure) best offer ≡ best) ⌝ }
     ensures yes { λ r. ⌜ (r ≡ true → cheaper (S·Scale .measure) best offer ≡ offer) ⌝ }
 {

@@ -35,7 +35,15 @@ fn pack(i: usize, j: usize, a: usize, d: usize, m: usize) -> u32
 }
 
 // The walk's next frame: on the stack, in place of the h-th number.
-pub fn push_frame(stack: &mut [u32], h: usize, i: usize, j: usize, a: usize, d: usize, m: usize)
+pub(crate) fn push_frame(
+    stack: &mut [u32],
+    h: usize,
+    i: usize,
+    j: usize,
+    a: usize,
+    d: usize,
+    m: usize,
+)
     requires { ⌜ (h < length (now stack)) × (i < 32) × (j < 32) × (a < 32) × (d < 32) × (m < 32) ⌝ }
     ensures { λ _. ⌜ now (stack .exit) ≡ set (now (stack .entry)) h (packed i j a d m) ⌝ }
 {
@@ -123,7 +131,7 @@ fn turn<S: Scale>(
 }
 
 // The walk: writes what is left of the form, and answers the form's length.
-pub fn write_form<S: Scale>(
+pub(crate) fn write_form<S: Scale>(
     rules: &[Rule],
     ground: Ground<S::Price>,
     stack: &mut [u32],

@@ -23,14 +23,14 @@ pub const LATHE: &[u8] =
 pub const ROW: &[u8] = b"rule\t0\tA\tA\tx\nrule\t0\tA\tx\nfiller\tplease\n";
 
 // The sheet of a text that loads; the blank one of any other.
-pub fn sheet_of(text: &[u8]) -> Sheet {
+pub(crate) fn sheet_of(text: &[u8]) -> Sheet {
     let mut sheet = Sheet::blank();
     let _ = load(text, &mut sheet);
     sheet
 }
 
 // An answer by its number and place, or the count with the number 0.
-pub fn told(answer: Result<usize, Fault>) -> (u8, usize, u8) {
+pub(crate) fn told(answer: Result<usize, Fault>) -> (u8, usize, u8) {
     match answer {
         Ok(count) => (0, count, 0),
         Err(fault) => (fault.refusal.number(), fault.place, fault.layer.number()),
@@ -38,7 +38,7 @@ pub fn told(answer: Result<usize, Fault>) -> (u8, usize, u8) {
 }
 
 // What hearing a message at a seat answers.
-pub fn heard<'a>(
+pub(crate) fn heard<'a>(
     sheet: &'a Sheet,
     hall: &mut [u64],
     seat: usize,

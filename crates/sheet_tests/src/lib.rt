@@ -12,7 +12,7 @@ mod refusals;
 mod says;
 
 // The refusal's number and place, or two zeros.
-pub fn verdict(text: &[u8]) -> (u8, usize) {
+pub(crate) fn verdict(text: &[u8]) -> (u8, usize) {
     let mut sheet = Sheet::blank();
     match load(text, &mut sheet) {
         Ok(()) => (0, 0),
@@ -21,7 +21,12 @@ pub fn verdict(text: &[u8]) -> (u8, usize) {
 }
 
 // A text of many lines, each made of two parts and its number between them.
-pub fn lines(heap: Global, count: usize, before: &str, after: &str) -> Result<String, AllocError> {
+pub(crate) fn lines(
+    heap: Global,
+    count: usize,
+    before: &str,
+    after: &str,
+) -> Result<String, AllocError> {
     let mut text = String::new(heap);
     for i in 0..count {
         text.push_str(format!(heap, "{before}{i}{after}\n")?.as_str())?;

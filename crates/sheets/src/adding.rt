@@ -22,7 +22,7 @@ use grammar::Spelling;
 use grammar::draft::Draft;
 
 // A draft of no lines.
-pub fn empty() -> Draft
+pub(crate) fn empty() -> Draft
     ensures { λ d. ⌜ Drafted [] d ⌝ }
 {
     Draft {
@@ -106,7 +106,7 @@ fn add_rule(draft: &mut Draft, weight: &[u8], left: &[u8], symbols: &[u8]) -> Re
 }
 
 // One line more; the draft of a refused line is let go.
-pub fn add_line(draft: &mut Draft, parsed: Parsed<'_>) -> Result<(), Bar>
+pub(crate) fn add_line(draft: &mut Draft, parsed: Parsed<'_>) -> Result<(), Bar>
     requires { ⌜ ((line : List ℕ) × Tells parsed line) ⌝ }
     ensures { λ r. ⌜ ((before : List Line) (ℓ : Line) (line : List ℕ) → Drafted before (now (draft .entry)) → Tells (parsed .entry) line → Means line ℓ → Outcome before ℓ r (now (draft .exit))) ⌝ }
 {

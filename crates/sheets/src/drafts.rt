@@ -15,7 +15,7 @@ use grammar::draft::Draft;
 use grammar::letters::is_name;
 
 // The number of the name, which may be new; none where it would be one too many.
-pub fn name_number(draft: &mut Draft, bytes: &[u8]) -> Option<u8>
+pub(crate) fn name_number(draft: &mut Draft, bytes: &[u8]) -> Option<u8>
     requires { ⌜ (name-spelled (now bytes) ≡ true) × (length (now bytes) ≤ 15) ⌝ }
     ensures { λ r. ⌜ elim r [ Some k ↦ Named (now (draft .entry)) (now (bytes .entry)) k (now (draft .exit)) | None ↦ Unnamed (now (draft .entry)) (now (bytes .entry)) ] ⌝ }
 {
@@ -27,7 +27,7 @@ pub fn name_number(draft: &mut Draft, bytes: &[u8]) -> Option<u8>
 }
 
 // The number of the word, which may be new; none where it would be one too many.
-pub fn word_number(draft: &mut Draft, bytes: &[u8]) -> Option<u8>
+pub(crate) fn word_number(draft: &mut Draft, bytes: &[u8]) -> Option<u8>
     requires { ⌜ (word-spelled (now bytes) ≡ true) × (length (now bytes) ≤ 15) ⌝ }
     ensures { λ r. ⌜ elim r [ Some k ↦ Worded (now (draft .entry)) (now (bytes .entry)) k (now (draft .exit)) | None ↦ Unworded (now (draft .entry)) (now (bytes .entry)) ] ⌝ }
 {
@@ -39,7 +39,7 @@ pub fn word_number(draft: &mut Draft, bytes: &[u8]) -> Option<u8>
 }
 
 // The name or the word that the bytes spell; none where a limit would be passed.
-pub fn symbol_number(draft: &mut Draft, bytes: &[u8]) -> Option<Symbol>
+pub(crate) fn symbol_number(draft: &mut Draft, bytes: &[u8]) -> Option<Symbol>
     requires { ⌜ symbol-spelled (now bytes) ≡ true ⌝ }
     ensures { λ r. ⌜ elim r [ Some k ↦ Entered (now (draft .entry)) (now (bytes .entry)) k (now (draft .exit)) | None ↦ Barred (now (draft .entry)) (now (bytes .entry)) ] ⌝ }
 {
@@ -59,7 +59,7 @@ pub fn symbol_number(draft: &mut Draft, bytes: &[u8]) -> Option<Symbol>
 }
 
 // Whether one of the aliases is for the word with the number.
-pub fn is_said(aliases: &[Alias], number: u8) -> bool
+pub(crate) fn is_said(aliases: &[Alias], number: u8) -> bool
     ensures { λ r. ⌜ r ≡ said-among number (now (aliases .entry)) ⌝ }
 {
     for alias in aliases {
@@ -71,7 +71,7 @@ pub fn is_said(aliases: &[Alias], number: u8) -> bool
 }
 
 // The set with the number k.
-pub fn with_number(set: u64, k: u8) -> u64
+pub(crate) fn with_number(set: u64, k: u8) -> u64
     requires { ⌜ k < 64 ⌝ }
     ensures { λ r. ⌜ r ≡ bitOr set (2 ^ k) ⌝ }
 {

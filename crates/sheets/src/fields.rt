@@ -22,7 +22,7 @@ fn find(bytes: &[u8], b: u8) -> usize
 }
 
 // The bytes before the first b, and the rest.
-pub fn cut(bytes: &[u8], b: u8) -> (&[u8], &[u8])
+pub(crate) fn cut(bytes: &[u8], b: u8) -> (&[u8], &[u8])
     ensures { λ r. ⌜ Cut b (now (bytes .entry)) (now (r .0)) (now (r .1)) ⌝ }
 {
     let end = find(bytes, b);
@@ -30,7 +30,7 @@ pub fn cut(bytes: &[u8], b: u8) -> (&[u8], &[u8])
 }
 
 // The first field, where each stands after a tab, and the rest.
-pub fn next_field(bytes: &[u8]) -> Option<(&[u8], &[u8])>
+pub(crate) fn next_field(bytes: &[u8]) -> Option<(&[u8], &[u8])>
     ensures { λ r. ⌜ elim r [ Some p ↦ Field (now (bytes .entry)) (now (p .0)) (now (p .1)) | None ↦ Fieldless (now (bytes .entry)) ] ⌝ }
 {
     match bytes {

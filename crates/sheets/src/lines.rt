@@ -107,7 +107,7 @@ pub enum Parsed<'a> {
 }
 
 // The line that the bytes mean, or none.
-pub fn read_line(bytes: &[u8]) -> Option<Parsed<'_>>
+pub(crate) fn read_line(bytes: &[u8]) -> Option<Parsed<'_>>
     ensures { λ r. ⌜ elim r [ Some p ↦ Tells p (now (bytes .entry)) | None ↦ ((ℓ : Line) → Means (now (bytes .entry)) ℓ → ⊥) ] ⌝ }
 {
     let (first, fields) = cut(bytes, b'\t');
@@ -137,7 +137,7 @@ pub fn read_line(bytes: &[u8]) -> Option<Parsed<'_>>
 }
 
 // The first line of the text and what follows its end; none where no line stands there.
-pub fn next_line(text: &[u8]) -> Option<(Parsed<'_>, &[u8])>
+pub(crate) fn next_line(text: &[u8]) -> Option<(Parsed<'_>, &[u8])>
     ensures line { λ r. ⌜ elim r [ Some q ↦ ((line : List ℕ) × (now (text .entry) ≡ line ++ (10 ∷ now (q .1))) × Tells (q .0) line) | None ↦ ((ℓ : Line) (after : List ℕ) → now (text .entry) ≡ written ℓ ++ (10 ∷ after) → Well ℓ → ⊥) ] ⌝ }
     ensures unique { λ _. ⌜ One-meaning ⌝ }
 {

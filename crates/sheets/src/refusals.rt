@@ -10,7 +10,7 @@ pub enum Bar {
 }
 
 impl Bar {
-    pub fn refusal(self) -> Refusal
+    pub(crate) fn refusal(self) -> Refusal
         ensures { λ r. ⌜ r ≡ refusal-of self ⌝ }
     {
         match self {

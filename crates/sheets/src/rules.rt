@@ -17,7 +17,7 @@ use grammar::Symbol;
 use grammar::draft::Draft;
 
 // The rule with the symbols of these fields on its right; none where a limit would be passed.
-pub fn read_rule(draft: &mut Draft, weight: u16, left: u8, fields: &[u8]) -> Option<Rule>
+pub(crate) fn read_rule(draft: &mut Draft, weight: u16, left: u8, fields: &[u8]) -> Option<Rule>
     requires { ⌜ (left < now draft .«name_count») × Symbols (now fields) ⌝ }
     ensures formed { λ r. ⌜ elim r [ Some p ↦ Formed (now (draft .exit) .«name_count») (now (draft .exit) .«word_count») p × (p .weight ≡ weight) × (p .left ≡ left) | None ↦ Unit {0} ] ⌝ }
     ensures read { λ r. ⌜ ((before : List Line) (N : List (List ℕ)) (ss : List Spelled) → Holding before N (words-of before) (now (draft .entry)) → now (fields .entry) ≡ tabbed (map spelling ss) → All (λ s. well s ≡ true) ss → elim r [ Some p ↦ Righted before N (words-of before) ss (now (draft .exit)) p | None ↦ (Fitting N (words-of before) ss → ⊥) ]) ⌝ }

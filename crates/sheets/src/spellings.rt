@@ -45,7 +45,7 @@ fn position(spellings: &[Spelling], bytes: &[u8]) -> Option<usize>
 }
 
 // The number of the spelling among the first, and how many there are with it; none where there is no room.
-pub fn intern(spellings: &mut [Spelling], count: u8, bytes: &[u8]) -> Option<(u8, u8)>
+pub(crate) fn intern(spellings: &mut [Spelling], count: u8, bytes: &[u8]) -> Option<(u8, u8)>
     requires { ⌜ count ≤ length (now spellings) ⌝ }
     requires { ⌜ length (now spellings) ≤ 64 ⌝ }
     requires { ⌜ Brief count (now spellings) ⌝ }

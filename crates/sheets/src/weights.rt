@@ -10,7 +10,7 @@ use grammar::letters::Class;
 use grammar::letters::is_digit;
 
 // Digits, with no zero before another.
-pub fn is_weight(field: &[u8]) -> bool
+pub(crate) fn is_weight(field: &[u8]) -> bool
     ensures { λ r. ⌜ r ≡ weight-spelled (now (field .entry)) ⌝ }
 {
     match field {
@@ -26,7 +26,7 @@ pub fn is_weight(field: &[u8]) -> bool
 }
 
 // The number that digits write; none over 65,535.
-pub fn weight(digits: &[u8]) -> Option<u16>
+pub(crate) fn weight(digits: &[u8]) -> Option<u16>
     requires { ⌜ every digit (now digits) ≡ true ⌝ }
     ensures { λ r. ⌜ elim r [ Some n ↦ n ≡ number (now (digits .entry)) | None ↦ 65535 < number (now (digits .entry)) ] ⌝ }
 {

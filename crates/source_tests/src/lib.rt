@@ -18,7 +18,7 @@ pub const TEXT: &[u8] =
     b"rule\t0\tGo\thold\tthe\tlathe\nfiller\tplease\nalias\tgrab\thold\nalias\tthanks\tplease\nalias\tplease\tspare\n";
 
 // A sheet with aliases and fillers; the blank one where the text were refused.
-pub fn sample() -> Sheet {
+pub(crate) fn sample() -> Sheet {
     let mut sheet = Sheet::blank();
     let _ = load(TEXT, &mut sheet);
     sheet
@@ -37,7 +37,7 @@ fn faulty(fault: Fault) -> Ending {
 }
 
 // The words and places of a source, and its ending; a message has fewer words than bytes.
-pub fn drain<S: Source + Drop>(
+pub(crate) fn drain<S: Source + Drop>(
     heap: Global,
     mut source: S,
 ) -> Result<(Vec<(u8, usize)>, Ending), AllocError> {
@@ -53,7 +53,7 @@ pub fn drain<S: Source + Drop>(
 }
 
 // What the server hears of a message.
-pub fn heard<'a>(
+pub(crate) fn heard<'a>(
     heap: Global,
     sheet: &'a Sheet,
     message: &'a [u8],

@@ -92,7 +92,7 @@ fn show_say(rt: &impl Print, sheet: &Sheet, hall: &mut [u64], word: u8) -> io::R
 }
 
 // Says the source's words at the first seat, one by one, and shows each column.
-pub fn show_filling<S: Source + Drop>(
+pub(crate) fn show_filling<S: Source + Drop>(
     rt: &impl Print,
     sheet: &Sheet,
     hall: &mut [u64],

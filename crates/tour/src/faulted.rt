@@ -25,7 +25,7 @@ fn reason(refusal: Refusal) -> &'static str {
     }
 }
 
-pub fn show_fault(rt: &impl Print, fault: Fault) -> io::Result<()> {
+pub(crate) fn show_fault(rt: &impl Print, fault: Fault) -> io::Result<()> {
     println!(
         rt,
         "refused {} at {} by layer {}: {}",

@@ -95,7 +95,7 @@ fn show_message(
 }
 
 // One message a line; the last may lack its end.
-pub fn show_messages(
+pub(crate) fn show_messages(
     rt: &impl Print,
     sheet: &Sheet,
     hall: &mut [u64],

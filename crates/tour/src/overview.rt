@@ -13,7 +13,7 @@ fn show_spelling(rt: &impl Print, spelling: &Spelling) -> io::Result<()> {
 }
 
 // A name or a word by its number; the sheet lists every number that it holds.
-pub fn show_numbered(rt: &impl Print, spellings: &[Spelling], number: u8) -> io::Result<()> {
+pub(crate) fn show_numbered(rt: &impl Print, spellings: &[Spelling], number: u8) -> io::Result<()> {
     match spellings.get(number as usize) {
         Some(spelling) => show_spelling(rt, spelling),
         None => Ok(()),
@@ -28,7 +28,12 @@ fn show_symbol(rt: &impl Print, sheet: &Sheet, symbol: Symbol) -> io::Result<()>
 }
 
 // The rule with a dot before symbol `dot`; past the last symbol the dot stands at the end.
-pub fn show_dotted(rt: &impl Print, sheet: &Sheet, rule: &Rule, dot: usize) -> io::Result<()> {
+pub(crate) fn show_dotted(
+    rt: &impl Print,
+    sheet: &Sheet,
+    rule: &Rule,
+    dot: usize,
+) -> io::Result<()> {
     show_numbered(rt, sheet.names(), rule.left)?;
     print!(rt, " ->")?;
     for (k, symbol) in rule.symbols.iter().take(rule.len as usize).enumerate() {
@@ -99,7 +104,7 @@ fn show_rules(rt: &impl Print, sheet: &Sheet) -> io::Result<()> {
     Ok(())
 }
 
-pub fn show_sheet(rt: &impl Print, sheet: &Sheet) -> io::Result<()> {
+pub(crate) fn show_sheet(rt: &impl Print, sheet: &Sheet) -> io::Result<()> {
     show_names(rt, sheet)?;
     show_words(rt, sheet)?;
     show_aliases(rt, sheet)?;

@@ -44,7 +44,7 @@ impl Sheet {
     }
 
     // The draft's sheet, or the lowest name without a tree.
-    pub fn of(draft: Draft) -> Result<Sheet, u8>
+    pub(crate) fn of(draft: Draft) -> Result<Sheet, u8>
         requires { ⌜ 0 < draft .«rule_count» ⌝ }
         ensures { λ r. ⌜ elim r [ Ok s ↦ Kept draft s | Err a ↦ Lowest draft a ] ⌝ }
     {
