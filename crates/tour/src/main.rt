@@ -4,6 +4,7 @@ mod faulted;
 mod messages;
 mod overview;
 
+use answers::input::split_input;
 use faulted::show_fault;
 use grammar::sheet::Sheet;
 use messages::show_messages;
@@ -13,24 +14,10 @@ use sheets::load::load;
 use std::io;
 use std::io::Read;
 
-// The sheet is what stands before the first empty line.
-fn sheet_end(input: &[u8]) -> usize {
-    let mut after_end = true;
-    for (i, b) in input.iter().enumerate() {
-        if *b == b'\n' && after_end {
-            return i;
-        }
-        after_end = *b == b'\n';
-    }
-    input.len()
-}
-
 fn main(rt: LibcRuntime) -> io::Result<()> {
     let mut input = Vec::new(rt.alloc());
     rt.stdin().read_to_end(&mut input)?;
-    let bytes = input.as_slice();
-    let end = sheet_end(bytes);
-    let text = bytes.get(0..end).unwrap_or(bytes);
+    let (text, messages) = split_input(input.as_slice());
     if text.is_empty() {
         eprintln!(
             rt,
@@ -42,10 +29,9 @@ fn main(rt: LibcRuntime) -> io::Result<()> {
     match load(text, &mut sheet) {
         Ok(()) => {
             show_sheet(&rt, &sheet)?;
-            let rest = bytes.get(end..).unwrap_or(&[]);
             let mut hall = vec![in rt.alloc(); 0u64; 3780]?;
             let _ = open(&sheet, &mut hall);
-            show_messages(&rt, &sheet, &mut hall, rest.get(1..).unwrap_or(&[]))
+            show_messages(&rt, &sheet, &mut hall, messages)
         }
         Err(fault) => show_fault(&rt, fault),
     }

@@ -2,6 +2,7 @@
 use super::columns::show_filling;
 use super::faulted::show_fault;
 use super::overview::show_numbered;
+use answers::input::next_message;
 use grammar::sheet::Sheet;
 use sources::alias::Alias;
 use sources::alias::AliasSource;
@@ -94,22 +95,20 @@ fn show_message(
     show_seat(rt, sheet, hall, message)
 }
 
-// One message a line; the last may lack its end.
+// There are no more messages than bytes.
 pub(crate) fn show_messages(
     rt: &impl Print,
     sheet: &Sheet,
     hall: &mut [u64],
-    lines: &[u8],
+    messages: &[u8],
 ) -> io::Result<()> {
-    let mut start = 0;
-    for (i, b) in lines.iter().enumerate() {
-        if *b == b'\n' {
-            show_message(rt, sheet, hall, lines.get(start..i).unwrap_or(&[]))?;
-            start = i + 1;
-        }
+    let mut rest = messages;
+    for _ in 0..messages.len() {
+        let Some((message, after)) = next_message(rest) else {
+            return Ok(());
+        };
+        show_message(rt, sheet, hall, message)?;
+        rest = after;
     }
-    match lines.get(start..) {
-        Some(last) if !last.is_empty() => show_message(rt, sheet, hall, last),
-        _ => Ok(()),
-    }
+    Ok(())
 }

@@ -1,0 +1,3 @@
+-- Definitions of the steps that the contracts cite.
+pub mod Taking
+pub mod Gaps
