@@ -54,15 +54,16 @@ module _ (s : Sheet) (ws xs : List ℕ) (h : Seat s ws xs) where
   pub seat-count : getD xs 0 0 ≡ length ws
   seat-count = sym (getD-take 21 xs 0 0 (omega arith)) ∙ row-count ws (take 21 xs) (h .words)
 
+  pub seat-word : (n : ℕ) → n < length ws → getD xs (1 + n) 0 ≡ getD ws n 0
+  seat-word n under = let few = h .few in sym (getD-take 21 xs (1 + n) 0 (omega arith)) ∙ row-word ws (take 21 xs) n (h .words) under
+
   -- a record of words passes the test of a record
   pub seat-whole : Whole s xs
   seat-whole = record {
     few = omega (arith, seat-count, h .few);
     listed = λ n l.
-        let few = h .few in
         let under : n < length ws = omega (arith, seat-count) in
-        let is : getD xs (1 + n) 0 ≡ getD ws n 0 = sym (getD-take 21 xs (1 + n) 0 (omega arith)) ∙ row-word ws (take 21 xs) n (h .words) under in
-        subst (λ (v : ℕ). Listed s v) (sym is) (h .listed n under);
+        subst (λ (v : ℕ). Listed s v) (sym (seat-word n under)) (h .listed n under);
   }
 
   -- two numbers written before the table

@@ -27,13 +27,13 @@ not-passed passed failed p = let e = passed p in let z : _≡_ {A = ℕ} 0 1 = c
 
 -- a call that looks at the record, and is refused before it does
 module _ (s : Sheet) (k : ℕ) (hall : List ℕ) (f : Fault) (why : Barred s hall k (Some f)) where
-  tells-no-seat : (Addressed hall k → ⊥) → told f ≡ fault NoSuchSeat 0
+  pub tells-no-seat : (Addressed hall k → ⊥) → told f ≡ fault NoSuchSeat 0
   tells-no-seat not = ⊎-elim (λ x. x .1) (λ x. absurd (not (x .0))) why
 
-  tells-broken : Addressed hall k → told f ≡ fault BrokenRecord 0
+  pub tells-broken : Addressed hall k → told f ≡ fault BrokenRecord 0
   tells-broken at = ⊎-elim (λ x. absurd (x .0 at)) (λ x. x .2) why
 
-  none-stands : Addressed hall k → (ws : List ℕ) → Seat s ws (seat hall k) → ⊥
+  pub none-stands : Addressed hall k → (ws : List ℕ) → Seat s ws (seat hall k) → ⊥
   none-stands at ws stand = ⊎-elim (λ x. x .0 at) (λ x. x .1 (seat-whole s ws (seat hall k) stand)) why
 
   pub changed-barred : (c : Call) → Changed s k c hall (Err (told f)) hall

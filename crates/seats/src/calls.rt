@@ -25,7 +25,7 @@ pub(crate) fn is_seat(hall: &[u64], seat: usize) -> bool
 }
 
 // Why a call that looks at the record of a seat is refused, if it is.
-fn bar(sheet: &Sheet, hall: &[u64], seat: usize) -> Option<Fault>
+pub fn bar(sheet: &Sheet, hall: &[u64], seat: usize) -> Option<Fault>
     ensures { λ r. ⌜ Barred (now (sheet .entry)) (now (hall .entry)) seat r ⌝ }
 {
     if !is_seat(hall, seat) {

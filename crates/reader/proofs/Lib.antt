@@ -1,0 +1,4 @@
+pub mod Answering
+pub mod Copies
+pub mod Refusing
+pub mod Turns
