@@ -1,5 +1,5 @@
-// Reading a seat, and whole runs of calls. Inside until the programs that read stand: nothing here is public yet.
+// Reading a seat, and whole runs: calls in order on one hall, and then a reading.
 
-mod mixed;
-mod performing;
-mod read;
+pub mod mixed;
+pub mod performing;
+pub mod read;

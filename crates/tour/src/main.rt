@@ -3,6 +3,7 @@ mod columns;
 mod faulted;
 mod messages;
 mod overview;
+mod runs;
 
 use answers::input::split_input;
 use faulted::show_fault;

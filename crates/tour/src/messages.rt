@@ -1,7 +1,9 @@
-// What is printed of messages: their runs, their words after each layer, and their table at a seat.
+// What is printed of messages: their runs, their words after each layer, their table at a seat, and their reading.
 use super::columns::show_filling;
 use super::faulted::show_fault;
 use super::overview::show_numbered;
+use super::runs::gather;
+use super::runs::show_run;
 use answers::input::next_message;
 use grammar::sheet::Sheet;
 use sources::alias::Alias;
@@ -77,7 +79,23 @@ fn show_seat<'a>(
 ) -> io::Result<()> {
     match pile(sheet, message) {
         Ok(pile) => show_filling(rt, sheet, hall, pile),
-        Err(fault) => show_fault(rt, fault),
+        Err(_) => Ok(()),
+    }
+}
+
+fn show_reading<'a>(
+    rt: &impl Print,
+    sheet: &'a Sheet,
+    hall: &mut [u64],
+    message: &'a [u8],
+) -> io::Result<()> {
+    match pile(sheet, message) {
+        Ok(pile) => {
+            let mut codes = [0u8; 21];
+            let count = gather(pile, &mut codes);
+            show_run(rt, sheet, hall, codes.get(0..count).unwrap_or(&[]))
+        }
+        Err(_) => Ok(()),
     }
 }
 
@@ -92,7 +110,8 @@ fn show_message(
     print!(rt, "\"")?;
     show_runs(rt, message)?;
     show_layers(rt, sheet, message)?;
-    show_seat(rt, sheet, hall, message)
+    show_seat(rt, sheet, hall, message)?;
+    show_reading(rt, sheet, hall, message)
 }
 
 // There are no more messages than bytes.

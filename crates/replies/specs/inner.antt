@@ -1,0 +1,2 @@
+-- Definitions of the steps that the contracts cite.
+pub mod Answering
