@@ -4,7 +4,7 @@
 usage: tools/spell_names.py [--check]     at the top of the repository; --check writes nothing and lists what would meet
 
 A name is ours if a text in crates/*/specs or crates/*/proofs declares it, but for the goals that a function's files answer.
-Turned are the code of those texts and the clauses, imports and comments of src/; Rust's own names, strings and goals' labels stay.
+Turned are the code of those texts and the clauses and imports of src/; Rust's own names, strings, and names that a file has from a library stay.
 A second run writes nothing more.
 """
 
@@ -18,8 +18,7 @@ TOKEN = r"""[^\s(){}\[\].;,@"«»:`]+"""
 DECLARED = re.compile(
     r"^\s*(?:(?:pattern|unfoldable|abbrev|axiom|pub|data|record)\s+)*([^\s(){}.;,@\"«»:=]*-[^\s(){}.;,@\"«»:=]*)(?:\s[^=]*?)?\s:\s(.*)$"
 )
-# A name behind one of these is a label that the check makes.
-HEADS = ("goal", "c", "w", "l", "g")
+IMPORT = re.compile(r"(?m)^\s*(?:ghost )?use ([^\s;{]+)\.\{([^}]*)\}")
 COMMENT = re.compile(r"--(?=\s).*$")
 CLAUSE = re.compile(r"^\s*(requires|ensures|ghost)\b|^\s*(?:→|×|⊎)")
 # Names that would meet another: of the library, or of a function beside them. A dash may join two names.
@@ -54,17 +53,22 @@ def spelled(name):
     return name.replace("-", "_")
 
 
-def turn_code(code, table):
-    def one(match):
-        token = match[0]
-        if token not in table:
-            return token
-        before = code[: match.start()]
-        if re.search(rf"(?<![\w.'-])(?:{'|'.join(HEADS)})\.$", before):
-            return token
-        return table[token]
+def crates(root):
+    return {os.path.basename(path) for path in glob.glob(f"{root}/crates/*")}
 
-    return re.sub(TOKEN, one, code)
+
+def foreign(text, ours):
+    """The names that a file imports from a library."""
+    found = set()
+    for path, names in IMPORT.findall(text):
+        steps = path.split(".")
+        if not (steps[0] == "Rattle" and len(steps) > 1 and steps[1] in ours):
+            found |= set(re.findall(TOKEN, names))
+    return found
+
+
+def turn_code(code, table):
+    return re.sub(TOKEN, lambda match: table.get(match[0], match[0]), code)
 
 
 def turn_text(text, table):
@@ -102,6 +106,7 @@ def meeting(root, table):
 
 def main(argv):
     root = os.path.dirname(os.path.dirname(os.path.realpath(__file__)))
+    ours = crates(root)
     table = {name: spelled(name) for name in declared(root)}
     twice = collections.Counter(table.values())
     for name, new in sorted(table.items()):
@@ -115,7 +120,9 @@ def main(argv):
     for path in [*texts(root), *sources(root)]:
         with open(path, encoding="utf-8") as file:
             text = file.read()
-        new = turn_text(text, table) if path.endswith(".antt") else turn_source(text, table)
+        kept = foreign(text, ours)
+        here = {name: new for name, new in table.items() if name not in kept}
+        new = turn_text(text, here) if path.endswith(".antt") else turn_source(text, here)
         if new != text:
             with open(path, "w", encoding="utf-8") as file:
                 file.write(new)

@@ -1,5 +1,5 @@
 -- The messages taken one after the other are all of them, and there is one such list.
-use Rattle.std.proofs.Common.{◌≡◌, ℕ, ◌+◌, ◌<◌, ◌≤◌, List, [], ◌∷◌, ◌++◌, length, get_or, take, drop, sym, refl, ap, ◌∙◌, subst, ⊎_elim, append_assoc, append_nil, arith}
+use Rattle.std.proofs.Common.{◌≡◌, ℕ, ◌+◌, ◌<◌, ◌≤◌, List, [], ◌∷◌, ◌++◌, length, get_or, take, drop, sym, refl, ap, ◌∙◌, subst, ⊎_elim, append_assoc, append-nil, arith}
 use Rattle.std.proofs.lemmas.List.{take_all, drop_all}
 use Rattle.std.proofs.lemmas.Bool.{cases_lt}
 use Rattle.answers.specs.Input.{Unended, ended, Messages, all_ended, last_open, OneList}
@@ -47,11 +47,11 @@ messages_more rest m after ms (last_open before last all f are is) (without_end 
 
 pub one_list : OneList
 one_list rest ms ms' (all_ended all is) (all_ended all' is') =
-    (lines_once ms ms' [] [] all all' tt tt (append_nil (ended ms) ∙ sym is ∙ is' ∙ sym (append_nil (ended ms')))).0
+    (lines_once ms ms' [] [] all all' tt tt (append-nil (ended ms) ∙ sym is ∙ is' ∙ sym (append-nil (ended ms')))).0
 one_list rest ms ms' (all_ended all is) (last_open before last all' f are is') =
-    absurd (f.1 (sym (lines_once ms before [] last all all' tt f.0 (append_nil (ended ms) ∙ sym is ∙ is')).1))
+    absurd (f.1 (sym (lines_once ms before [] last all all' tt f.0 (append-nil (ended ms) ∙ sym is ∙ is')).1))
 one_list rest ms ms' (last_open before last all f are is) (all_ended all' is') =
-    absurd (f.1 (lines_once before ms' last [] all all' f.0 tt (sym is ∙ is' ∙ sym (append_nil (ended ms')))).1)
+    absurd (f.1 (lines_once before ms' last [] all all' f.0 tt (sym is ∙ is' ∙ sym (append-nil (ended ms')))).1)
 one_list rest ms ms' (last_open before last all f are is) (last_open before' last' all' f' are' is') =
     let same = lines_once before before' last last' all all' f.0 f'.0 (sym is ∙ is') in
     let p = same.0 in let q = same.1 in cc

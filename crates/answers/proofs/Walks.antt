@@ -1,5 +1,5 @@
 -- The lines of a front of the input, up to the first empty line.
-use Rattle.std.proofs.Common.{◌≡◌, ℕ, ◌+◌, ◌<◌, ◌≤◌, Bool, true, false, eqb, ◌⊎◌, List, [], ◌∷◌, ◌++◌, length, get_or, take, drop, sym, refl, ap, ◌∙◌, subst, inl, inr, append_assoc, append_nil, arith, eq-eqb, ne_eqb}
+use Rattle.std.proofs.Common.{◌≡◌, ℕ, ◌+◌, ◌<◌, ◌≤◌, Bool, true, false, eqb, ◌⊎◌, List, [], ◌∷◌, ◌++◌, length, get_or, take, drop, sym, refl, ap, ◌∙◌, subst, inl, inr, append_assoc, append-nil, arith, eq-eqb, ne_eqb}
 use Rattle.std.specs.List.{AllByRecursion as All}
 use Rattle.std.proofs.lemmas.List.{take_more, take_all, drop_all}
 use Rattle.std.proofs.ByRecursion.{All-push}
@@ -25,7 +25,7 @@ walked_byte : (front : List ℕ) (fresh : Bool) (b : ℕ) → Walked front fresh
 walked_byte front fresh b w n = record {
   full = w.full;
   last = w.last ++ (b ∷ []);
-  all_full = w.all-full;
+  all_full = w.all_full;
   unended = All-push (λ c. c ≡ 10 → ⊥) w.last b w.unended n;
   is = ap (λ bs. bs ++ (b ∷ [])) w.is ∙ append_assoc (ended w.full) w.last (b ∷ []);
   at_start = λ e. absurd (grind arith);
@@ -37,9 +37,9 @@ walked_end : (front : List ℕ) (b : ℕ) → Walked front false → b ≡ 10 �
 walked_end front b w e = record {
   full = w.full ++ (w.last ∷ []);
   last = [];
-  all_full = All-push FullLine w.full w.last w.all-full (w.unended, w.inside refl);
+  all_full = All-push FullLine w.full w.last w.all_full (w.unended, w.inside refl);
   unended = tt;
-  is = ap (λ bs. bs ++ (b ∷ [])) w.is ∙ append_assoc (ended w.full) w.last (b ∷ []) ∙ ap (λ c. ended w.full ++ (w.last ++ (c ∷ []))) e ∙ sym (ended_push w.full w.last) ∙ sym (append_nil (ended (w.full ++ (w.last ∷ []))));
+  is = ap (λ bs. bs ++ (b ∷ [])) w.is ∙ append_assoc (ended w.full) w.last (b ∷ []) ∙ ap (λ c. ended w.full ++ (w.last ++ (c ∷ []))) e ∙ sym (ended_push w.full w.last) ∙ sym (append-nil (ended (w.full ++ (w.last ∷ []))));
   at_start = λ _. refl;
   inside = λ f. absurd (grind arith);
 }
@@ -57,14 +57,14 @@ walked_turn input i fresh l w way =
 -- where an end stands at the start of a line, the sheet is done
 pub split_at : (input : List ℕ) (i : ℕ) (fresh : Bool) → i < length input → Walked (take i input) fresh → fresh ≡ true → get_or input i 0 ≡ 10 → Split input (take i input) (drop (i + 1) input)
 split_at input i fresh l w f e =
-    at_empty_line w.full w.all-full
-    (w.is ∙ ap (λ bs. ended w.full ++ bs) (w.at-start f) ∙ append_nil (ended w.full))
+    at_empty_line w.full w.all_full
+    (w.is ∙ ap (λ bs. ended w.full ++ bs) (w.at_start f) ∙ append-nil (ended w.full))
     (parted_at input i l e)
 
 -- past the last byte there was no empty line
 pub split_not : (input : List ℕ) (i : ℕ) (fresh : Bool) → length input ≤ i → Walked (take i input) fresh → Split input (take (length input) input) (drop (length input + 1) input)
 split_not input i fresh m w =
-    without w.full w.last w.all-full w.unended (sym (take_all i input m) ∙ w.is) (take_all (length input) input (omega arith)) (drop_all (length input + 1) input (omega arith))
+    without w.full w.last w.all_full w.unended (sym (take_all i input m) ∙ w.is) (take_all (length input) input (omega arith)) (drop_all (length input + 1) input (omega arith))
 
 -- the same split, of parts that are equal
 pub split_same : (input sheet rest sheet' rest' : List ℕ) → sheet' ≡ sheet → rest' ≡ rest → Split input sheet rest → Split input sheet' rest'

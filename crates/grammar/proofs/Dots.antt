@@ -1,6 +1,6 @@
 -- The dotted places of one rule, and of one rule more.
 use Rattle.std.proofs.Common.{◌≡◌, ℕ, zero, suc, ◌+◌, ◌<◌, ◌≤◌, List, [], ◌∷◌, ◌++◌, length, get_or, take, drop, sym, refl, ap, ◌∙◌, subst, ap₂, add-one, arith, length-append, length-take}
-use Rattle.std.proofs.lemmas.List.{append_nil, append_assoc, take_all, take_more}
+use Rattle.std.proofs.lemmas.List.{append-nil, append_assoc, take_all, take_more}
 use Rattle.grammar.specs.declared.Symbol.{Symbol}
 use Rattle.grammar.specs.declared.Rule.{Rule}
 use Rattle.grammar.specs.declared.masks.Masks.{Masks}
@@ -22,9 +22,9 @@ placed a before after = record { left = a; before = before; after = after }
 dots_more : (a : ℕ) (before s : List Symbol) (k : ℕ) → k ≤ length s
     → take (suc k) (dots a before s) ≡ take k (dots a before s) ++ (record { left = a; before = before ++ take k s; after = drop k s } ∷ [])
 unfolding placed
-dots_more a before [] zero h = ap (λ b. placed a b [] ∷ []) (sym (append_nil before))
+dots_more a before [] zero h = ap (λ b. placed a b [] ∷ []) (sym (append-nil before))
 dots_more a before [] (suc k) h = absurd (omega arith)
-dots_more a before (x ∷ s) zero h = ap (λ b. placed a b (x ∷ s) ∷ []) (sym (append_nil before))
+dots_more a before (x ∷ s) zero h = ap (λ b. placed a b (x ∷ s) ∷ []) (sym (append-nil before))
 dots_more a before (x ∷ s) (suc k) h =
     ap (λ ps. placed a before (x ∷ s) ∷ ps)
     (dots_more a (before ++ (x ∷ [])) s k (omega arith)
@@ -36,7 +36,7 @@ module _ (p : Rule) (before : List Place) (set : ℕ) where
   upto k = before ++ take k (dots p.left [] (right p))
 
   pub upto_none : (m : Masks) → Held before set m → Held (upto 0) set m
-  upto_none m h = subst (λ ps. Held ps set m) (sym (append_nil before)) h
+  upto_none m h = subst (λ ps. Held ps set m) (sym (append-nil before)) h
 
   pub upto_more : (start k : ℕ) (m n : Masks) → length before ≡ start → k ≤ length (right p) → Held (upto k) set m → Grown (spot p k) (start + k) set m n → Held (upto (k + 1)) set n
   upto_more start k m n l h held grown =
@@ -62,7 +62,7 @@ module _ (rules : List Rule) (i : ℕ) (listed : i < length rules) where
   dotted_more =
       ap dotted (take_more rules i no_rule listed)
       ∙ dotted_append (take i rules) (get_or rules i no_rule ∷ [])
-      ∙ ap (λ ps. dotted (take i rules) ++ ps) (append_nil (dots (get_or rules i no_rule).left [] (right (get_or rules i no_rule))))
+      ∙ ap (λ ps. dotted (take i rules) ++ ps) (append-nil (dots (get_or rules i no_rule).left [] (right (get_or rules i no_rule))))
 
   pub held_rule : (set : ℕ) (m : Masks) → Held (dotted (take i rules) ++ dots (get_or rules i no_rule).left [] (right (get_or rules i no_rule))) set m → Held (dotted (take (i + 1) rules)) set m
   held_rule set m h = subst (λ ps. Held ps set m) (sym dotted_more) h

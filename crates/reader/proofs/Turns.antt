@@ -1,5 +1,5 @@
 -- The turns taken so far, what one more gives, and the reading after them. Assumes nothing.
-use Rattle.std.proofs.Common.{◌≡◌, ℕ, ◌+◌, ◌<◌, ◌≤◌, List, [], ◌∷◌, ◌++◌, length, get_or, take, drop, set, Err, Result, sym, refl, ap, ◌∙◌, subst, append_assoc, append_nil, arith}
+use Rattle.std.proofs.Common.{◌≡◌, ℕ, ◌+◌, ◌<◌, ◌≤◌, List, [], ◌∷◌, ◌++◌, length, get_or, take, drop, set, Err, Result, sym, refl, ap, ◌∙◌, subst, append_assoc, append-nil, arith}
 use Rattle.std.proofs.lemmas.List.{take_more_set, drop_all, take_all, drop-drop, drop_more, drop-set-lt, length-set}
 use Rattle.faults.specs.Faults.{Told}
 use Rattle.grammar.specs.declared.sheet.Sheet.{Sheet}
@@ -55,7 +55,7 @@ module _ {T : Type 0} (means : T → Meaning) (s : Sheet) (turns : List (Turn T)
 
     pub all_answered : length turns' ≤ i → Answers means s (open_all ∷ []) turns turns'
     all_answered over =
-        subst (λ ts. Answers means s (open_all ∷ []) turns ts) (append_nil (take i turns') ∙ take_all i turns' over)
+        subst (λ ts. Answers means s (open_all ∷ []) turns ts) (append-nil (take i turns') ∙ take_all i turns' over)
         (so_far.onward [] (subst (λ ts. Answers means s so_far.calls ts []) (sym (drop_all i turns (omega (arith, so_far.long)))) tt))
 
 pub read_after : {P : Type 0} (s : Sheet) (S : Scale P) (cs : List standing.Call) (k : ℕ) (hall : List ℕ) (b : Lent P) (r : Result (Reading P) Told) (b' : Lent P)

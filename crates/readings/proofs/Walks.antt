@@ -1,5 +1,5 @@
 -- The turns of the walk that writes a cheapest reading. Assumes nothing.
-use Rattle.std.proofs.Common.{◌≡◌, ℕ, suc, ◌+◌, ◌-◌, ◌*◌, ◌<◌, ◌≤◌, true, false, eqb, List, [], ◌∷◌, ◌++◌, length, Some, Option, sym, refl, ap, ◌∙◌, subst, subst₂, append_assoc, append_nil, arith, length-append}
+use Rattle.std.proofs.Common.{◌≡◌, ℕ, suc, ◌+◌, ◌-◌, ◌*◌, ◌<◌, ◌≤◌, true, false, eqb, List, [], ◌∷◌, ◌++◌, length, Some, Option, sym, refl, ap, ◌∙◌, subst, subst₂, append_assoc, append-nil, arith, length-append}
 use mathlib.Core.Logic.{by_cases}
 use native.Mathlib.Decide.{dec_lt, ℕ_discrete}
 use Rattle.std.proofs.lemmas.Bool.Decides.{Decides-eqb, nat_tests}
@@ -80,7 +80,7 @@ module _ {P : Type 0} (rules : List Rule) (S : Scale P) (L : Laws S) (ws : List 
   -- nothing is left of the frame
   completes_leave : (i j k m : ℕ) (fs : List Frame) (out : List ℕ) → Open S ws t (frame i j k m []) → Completes rules S ws t goal (frame i j k m [] ∷ fs) out → Completes rules S ws t goal fs out
   completes_leave i j k m fs out o c =
-      subst (Completes rules S ws t goal fs) (append_nil out)
+      subst (Completes rules S ws t goal fs) (append-nil out)
       (c end (record { least = subst (λ (q : P). Least S (Cuts S (child S ws t i j k) [] m j) (Some q)) o.least.reached.1 o.least; fits = tt; over = subst (λ (n : ℕ). Over ws n j end) (sym o.least.reached.0) (over_end ws j o.within) }))
 
   -- the chosen cut's price, with a row behind
@@ -247,7 +247,7 @@ module _ {P : Type 0} (rules : List Rule) (S : Scale P) (L : Laws S) (ws : List 
       let en = R i j a c e in
       let q = least_one S L _ _ _ en.least z.least in
       let d : price rules S row ≡ en.cut = cc in
-      subst goal (form_some rules S L ws t goal (t.by i j a) i j row end lt z.over ∙ ap (λ (l : List ℕ). suc (t.by i j a) ∷ l) (append_nil (form row))) (root_whole row z.fits z.over d)
+      subst goal (form_some rules S L ws t goal (t.by i j a) i j row end lt z.over ∙ ap (λ (l : List ℕ). suc (t.by i j a) ∷ l) (append-nil (form row))) (root_whole row z.fits z.over d)
 
   -- a tree with words
   pub walk_start : i < j → j - i ≤ 20 → length (right (nth rules (t.by i j a))) ≤ 8

@@ -1,5 +1,5 @@
 -- The lines of the messages, one turn after the other. Assumes nothing.
-use Rattle.std.proofs.Common.{◌≡◌, ℕ, ◌<◌, List, [], ◌∷◌, ◌++◌, length, sym, refl, ap, ◌∙◌, subst, append_assoc, append_nil, arith, length-append}
+use Rattle.std.proofs.Common.{◌≡◌, ℕ, ◌<◌, List, [], ◌∷◌, ◌++◌, length, sym, refl, ap, ◌∙◌, subst, append_assoc, append-nil, arith, length-append}
 use Rattle.grammar.specs.declared.sheet.Sheet.{Sheet}
 use Rattle.answers.specs.Input.{Messages}
 use Rattle.answers.specs.inner.Taking.{Taken, with_end, without_end}
@@ -18,7 +18,7 @@ onward_more s whole before rest written message rest' line after onward taken re
 pub onward_done : (s : Sheet) (whole before rest after : List ℕ) → rest ≡ [] → Onward s whole before rest after → Replied s whole before after
 onward_done s whole before rest after none onward =
     let x = onward [] [] (subst (λ bs. Messages bs []) (sym none) messages_none) refl in
-    (x.0, x.1, x.2, x.3, sym (append_nil after) ∙ x.4)
+    (x.0, x.1, x.2, x.3, sym (append-nil after) ∙ x.4)
 
 longer : (m after : List ℕ) (b : ℕ) → length after < length (m ++ (b ∷ after))
 longer m after b = simp length-append (omega arith)

@@ -1,7 +1,7 @@
 -- The table of a seat, lent to a call.
 use Rattle.std.proofs.Common.{◌≡◌, ℕ, List, [], ◌++◌, length, take, drop, ap, ◌∙◌, arith}
 use borrow.Rule.Slice.PartMut.{put_mid}
-use Rattle.std.proofs.lemmas.List.{append_nil, drop_all, drop_at, take_all, length-append, length-drop, length-take-le}
+use Rattle.std.proofs.lemmas.List.{append-nil, drop_all, drop_at, take_all, length-append, length-drop, length-take-le}
 use Rattle.std.proofs.lemmas.Slice.{take-put_mid_below}
 
 -- what is lent: a part up to the end is written as one of so many numbers
@@ -19,9 +19,9 @@ module _ (xs ys : List ℕ) (size : length xs ≡ 945) (long : length ys ≡ 924
   pub back_table : drop 21 (put_mid 21 924 xs ys) ≡ ys
   back_table =
       drop_at (take 21 xs) (ys ++ drop 924 (drop 21 xs)) 21 (length-take-le 21 xs (omega arith))
-      ∙ ap (λ (zs : List ℕ). ys ++ zs) back_rest ∙ append_nil ys
+      ∙ ap (λ (zs : List ℕ). ys ++ zs) back_rest ∙ append-nil ys
 
   pub back_size : length (put_mid 21 924 xs ys) ≡ 945
   back_size =
       ap (λ (zs : List ℕ). length (take 21 xs ++ (ys ++ zs))) back_rest
-      ∙ omega (arith, length-append (take 21 xs) (ys ++ []), ap length (append_nil ys), length-take-le 21 xs (omega arith))
+      ∙ omega (arith, length-append (take 21 xs) (ys ++ []), ap length (append-nil ys), length-take-le 21 xs (omega arith))

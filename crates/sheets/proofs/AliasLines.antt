@@ -4,7 +4,7 @@ use borrow.Author.Tests.{clash}
 use Rattle.std.specs.List.{AllByRecursion as All}
 use Rattle.std.specs.Str.{bytes_eq}
 use Rattle.std.proofs.lemmas.Slice.Eq.{bytes_eq-Decides}
-use Rattle.std.proofs.lemmas.List.{append_nil, map_push, at_drop_more, at_drop_all}
+use Rattle.std.proofs.lemmas.List.{append-nil, map_push, at_drop_more, at_drop_all}
 use Rattle.std.proofs.lemmas.Bool.{cases_eq, or_left, eq-eqb, ne_eqb, cases_Bool}
 use Rattle.grammar.specs.declared.Alias.{Alias}
 use Rattle.grammar.specs.declared.draft.Draft.{Draft}
@@ -92,11 +92,11 @@ module _ (before : List Line) (s m : List ℕ) (i j : ℕ) (d e f : Draft) (draf
       let at = word_at before (names_of before) W' m j e f second alias_held in
       let new : renaming W' (record { said = i; meant = j }) ≡ record { said = s; meant = m } = (let a = said_at.1 in let b = at.1 in cc) in
       more before (alias s m) f g alias_held r.names r.name_count r.words r.word_count (r.rule_count ∙ sym (add-zero f.rule_count)) r.alias_count
-      ((let a = r.rules in let b = r.rule_count in let q = alias_held.rules in cc) ∙ sym (append_nil (productions before)))
+      ((let a = r.rules in let b = r.rule_count in let q = alias_held.rules in cc) ∙ sym (append-nil (productions before)))
       (ap (map (renaming W')) r.aliases ∙ map_push (renaming W') (take f.alias_count f.aliases) (record { said = i; meant = j })
       ∙ (let q = alias_held.aliases in cc))
       ((let a = r.starts in let b = r.rule_count in let q = alias_held.places in cc) ∙ sym (add-zero (places_of before)))
-      (λ w l. ap (λ set. has set w) r.fillers ∙ alias_held.fillers w l ∙ ap (member (get_or W' w [])) (sym (append_nil (fillers_of before))))
+      (λ w l. ap (λ set. has set w) r.fillers ∙ alias_held.fillers w l ∙ ap (member (get_or W' w [])) (sym (append-nil (fillers_of before))))
       (λ t q. absurd (clash q))
 
   pub alias_line : (again : Bool) (g : Draft) → again ≡ said_among i (take (f.alias_count - 0) f.aliases) → Renamed f (record { said = i; meant = j }) g → Short s → Short m

@@ -3,18 +3,18 @@ use Rattle.std.proofs.Common.{◌≡◌, ℕ, zero, suc, ◌<◌, ◌≤◌, tru
 use borrow.Author.Tests.{clash}
 use Rattle.std.specs.Str.{bytes_eq}
 use Rattle.std.proofs.lemmas.Slice.Eq.{bytes_eq-Decides}
-use Rattle.std.proofs.lemmas.List.{append_assoc, append_nil, get_or_append_left, get_or_push}
+use Rattle.std.proofs.lemmas.List.{append_assoc, append-nil, get_or_append_left, get_or_push}
 use Rattle.std.proofs.lemmas.Bool.{cases_Bool, cases_lt, or_left, or_right, cond-true, cond-false}
 use Rattle.sheets.specs.Spellings.{member, with_one, with_all}
 
 pub grows_one : (seen : List (List ℕ)) (s : List ℕ) → (zs : List (List ℕ)) × (with_one seen s ≡ seen ++ zs)
 grows_one seen s = elim (cases_Bool (member s seen)) [
-  | inl e ↦ ([], cond-true (member s seen) seen (seen ++ (s ∷ [])) e ∙ sym (append_nil seen))
+  | inl e ↦ ([], cond-true (member s seen) seen (seen ++ (s ∷ [])) e ∙ sym (append-nil seen))
   | inr e ↦ (s ∷ [], cond-false (member s seen) seen (seen ++ (s ∷ [])) e)
 ]
 
 pub grows : (seen ss : List (List ℕ)) → (zs : List (List ℕ)) × (with_all seen ss ≡ seen ++ zs)
-grows seen [] = ([], sym (append_nil seen))
+grows seen [] = ([], sym (append-nil seen))
 grows seen (s ∷ ss) =
     let one = grows_one seen s in
     let more = grows (with_one seen s) ss in

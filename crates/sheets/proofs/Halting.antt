@@ -1,6 +1,6 @@
 -- The first line that fails is one, and fails in one way.
 use Rattle.std.proofs.Common.{◌≡◌, ℕ, ◌<◌, List, [], ◌∷◌, ◌++◌, length, sym, refl, ap, ◌∙◌, subst, inl, inr, arith, length-append}
-use Rattle.std.proofs.lemmas.List.{append_nil}
+use Rattle.std.proofs.lemmas.List.{append-nil}
 use Rattle.sheets.specs.Lines.{Line, written, Well}
 use Rattle.sheets.specs.Limits.{Within, Second, Accepted}
 use Rattle.sheets.specs.Texts.{ended, Ordered, Misshapen, PassesLimit, AliasedTwice, FirstFault}
@@ -71,7 +71,7 @@ fault_once text f g n m (ls, rest, e, wells, accepted, fails, is) (ms, rest', e'
 pub fault_never : (text : List ℕ) (f : Failure) (n : ℕ) (ms : List Line) → FirstFault text (Fails f) n → Ordered text ms → ⊥
 fault_never text f n ms (ls, rest, e, wells, accepted, fails, is) (e', wells', accepted') =
     let halt = halts f ls rest fails in
-    elim (compared ls ms rest [] wells wells' (sym e ∙ e' ∙ sym (append_nil (ended ms)))) [
+    elim (compared ls ms rest [] wells wells' (sym e ∙ e' ∙ sym (append-nil (ended ms)))) [
       | inl p ↦ let none = ap length p.1 in omega (arith, halt.0)
       | inr (inl l) ↦ stopped ls ms rest halt accepted' l
       | inr (inr l) ↦ ends_there ms ls [] refl l

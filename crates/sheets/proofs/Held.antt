@@ -75,15 +75,15 @@ module _ (ls : List Line) (N W : List (List ℕ)) (d : Draft) (h : Holding ls N 
   worded s k e w =
       let now : texts e.word_count e.words ≡ with_one W s = w.listed ∙ ap (λ seen. with_one seen s) h.words in
       record {
-        names = (let a = w.names in let b = w.name-count in let q = h.names in cc);
-        name_total = h.name_total ∙ sym w.name-count;
+        names = (let a = w.names in let b = w.name_count in let q = h.names in cc);
+        name_total = h.name_total ∙ sym w.name_count;
         word_total = ap length (sym now) ∙ w.total;
-        rule_total = h.rule_total ∙ sym w.rule-count;
-        alias_total = h.alias_total ∙ sym w.alias-count;
+        rule_total = h.rule_total ∙ sym w.rule_count;
+        alias_total = h.alias_total ∙ sym w.alias_count;
         words = now;
-        rules = (let a = w.rules in let b = w.rule-count in let q = rules_held [] (s ∷ []) in cc);
-        aliases = (let a = w.aliases in let b = w.alias-count in let q = aliases_held (s ∷ []) in cc);
-        places = (let a = w.starts in let b = w.rule-count in let q = h.places in cc);
+        rules = (let a = w.rules in let b = w.rule_count in let q = rules_held [] (s ∷ []) in cc);
+        aliases = (let a = w.aliases in let b = w.alias_count in let q = aliases_held (s ∷ []) in cc);
+        places = (let a = w.starts in let b = w.rule_count in let q = h.places in cc);
         fillers = λ v l. ap (λ set. has set v) w.fillers ∙ fillers_held s v l;
         known = λ t q. member_kept W (s ∷ []) t (h.known t q);
       }

@@ -1,7 +1,7 @@
 -- One line more of a text.
 use Rattle.std.proofs.Common.{◌≡◌, ℕ, suc, ◌+◌, ◌<◌, ◌≤◌, ◌⊎◌, List, [], ◌∷◌, ◌++◌, map, length, Err, sym, refl, ap, ◌∙◌, subst, inl, inr, arith, length-append}
 use Rattle.std.specs.List.{AllByRecursion as All}
-use Rattle.std.proofs.lemmas.List.{append_assoc, append_nil}
+use Rattle.std.proofs.lemmas.List.{append_assoc, append-nil}
 use Rattle.std.proofs.ByRecursion.{All-push}
 use Rattle.sheets.specs.declared.lines.Parsed.{Parsed}
 use Rattle.sheets.specs.declared.lines.Parsed.TheVariants.{Rule, Alias, Filler}
@@ -67,7 +67,7 @@ pub shorter : (rest line after : List ℕ) → rest ≡ line ++ (10 ∷ after) �
 shorter rest line after f = let e = ap length f in let l = length-append line (10 ∷ after) in omega arith
 
 pub text_all : (text rest : List ℕ) (ls : List Line) → text ≡ ended ls ++ rest → rest ≡ [] → text ≡ ended ls
-text_all text rest ls e f = e ∙ ap (λ t. ended ls ++ t) f ∙ append_nil (ended ls)
+text_all text rest ls e f = e ∙ ap (λ t. ended ls ++ t) f ∙ append-nil (ended ls)
 
 -- a line that is refused refuses the text
 pub barred : (text rest after : List ℕ) (before : List Line) (ℓ : Line) (bar : Bar) (d : Draft) (n : ℕ) → length text ≤ 16384 → text ≡ ended before ++ rest → All Well before → Accepted before

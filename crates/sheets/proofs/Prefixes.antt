@@ -1,7 +1,7 @@
 -- A text has one list of lines: of two that begin it, one goes on from the other.
 use Rattle.std.proofs.Common.{◌≡◌, ℕ, ◌⊎◌, List, [], ◌∷◌, ◌++◌, length, sym, refl, ap, ◌∙◌, inl, inr, arith, length-append}
 use Rattle.std.specs.List.{AllByRecursion as All}
-use Rattle.std.proofs.lemmas.List.{append_assoc, append_nil}
+use Rattle.std.proofs.lemmas.List.{append_assoc, append-nil}
 use Rattle.sheets.specs.Lines.{Line, written, Well}
 use Rattle.sheets.specs.Texts.{ended, Ordered}
 use Rattle.sheets.proofs.Cuts.{cut_once}
@@ -60,7 +60,7 @@ ends_there ls ms rest e l =
 
 pub ordered_once : (text : List ℕ) (ls ms : List Line) → Ordered text ls → Ordered text ms → ls ≡ ms
 ordered_once text ls ms p q =
-    elim (compared ls ms [] [] p.1 q.1 (append_nil (ended ls) ∙ sym p.0 ∙ q.0 ∙ sym (append_nil (ended ms)))) [
+    elim (compared ls ms [] [] p.1 q.1 (append-nil (ended ls) ∙ sym p.0 ∙ q.0 ∙ sym (append-nil (ended ms)))) [
       | inl e ↦ e.0
       | inr (inl l) ↦ absurd (ends_there ls ms [] refl l)
       | inr (inr l) ↦ absurd (ends_there ms ls [] refl l)

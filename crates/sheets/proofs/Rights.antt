@@ -1,7 +1,7 @@
 -- The symbols of a rule line, one after the other.
 use Rattle.std.proofs.Common.{◌≡◌, ℕ, ◌+◌, ◌<◌, ◌≤◌, true, List, [], ◌∷◌, ◌++◌, map, length, set, sym, refl, ap, ◌∙◌, subst, inl, inr, arith}
 use Rattle.std.specs.List.{AllByRecursion as All}
-use Rattle.std.proofs.lemmas.List.{append_assoc, append_nil, length-append, length-map, length-take, map_push, take_more_set}
+use Rattle.std.proofs.lemmas.List.{append_assoc, append-nil, length-append, length-map, length-take, map_push, take_more_set}
 use Rattle.std.proofs.ByRecursion.{All-push}
 use Rattle.grammar.specs.declared.Symbol.{Symbol}
 use Rattle.grammar.specs.declared.Symbol.TheVariants.{Name, Word}
@@ -164,7 +164,7 @@ module _ (before : List Line) (N W : List (List ℕ)) (ss : List Spelled) (bytes
   -- no symbol is left
   pub righted : length p.symbols ≡ 8 → p.len ≤ 8 → Fieldless bytes → Midway before N W ss bytes d p → Righted before N W ss d p
   righted eight few none (N₁, W₁, [], h) =
-      let spells : map (spelled N₁ W₁) (right p) ≡ ss = sym (append_nil (map (spelled N₁ W₁) (right p))) ∙ h.spells in
+      let spells : map (spelled N₁ W₁) (right p) ≡ ss = sym (append-nil (map (spelled N₁ W₁) (right p))) ∙ h.spells in
       record {
         held = subst (λ n. Holding before n (with_all W (words_among ss)) d) h.names (subst (λ w. Holding before N₁ w d) h.words h.held);
         spells = subst (λ n. map (spelled n (with_all W (words_among ss))) (right p) ≡ ss) h.names (subst (λ w. map (spelled N₁ w) (right p) ≡ ss) h.words spells);

@@ -1,7 +1,7 @@
 -- A rule line more.
 use Rattle.std.proofs.Common.{◌≡◌, ℕ, List, [], ◌∷◌, ◌++◌, map, get_or, take, sym, ap, ◌∙◌, inl, inr, add-zero, arith}
 use borrow.Author.Tests.{clash}
-use Rattle.std.proofs.lemmas.List.{append_nil, map_push}
+use Rattle.std.proofs.lemmas.List.{append-nil, map_push}
 use Rattle.grammar.specs.declared.Rule.{Rule}
 use Rattle.grammar.specs.declared.draft.Draft.{Draft}
 use Rattle.grammar.specs.Bits.{has}
@@ -45,9 +45,9 @@ module _ (before : List Line) (a : List ℕ) (k : ℕ) (d e : Draft) (drafted : 
         let new : production N' W' p ≡ record { weight = number w; left = a; right = ss } = (let q = left_at in let s = read.spells in cc) in
         more before (rule w a ss) f g held r.names r.name_count r.words r.word_count r.rule_count (r.alias_count ∙ sym (add-zero f.alias_count))
         (ap (map (production N' W')) r.rules ∙ map_push (production N' W') (take f.rule_count f.rules) p ∙ (let q = held.rules in cc))
-        ((let x = r.aliases in let y = r.alias_count in let q = held.aliases in cc) ∙ sym (append_nil (renamings before)))
+        ((let x = r.aliases in let y = r.alias_count in let q = held.aliases in cc) ∙ sym (append-nil (renamings before)))
         (let x = r.places in let q = held.places in let n = read.counted in omega arith)
-        (λ v l. ap (λ set. has set v) r.fillers ∙ held.fillers v l ∙ ap (member (get_or W' v [])) (sym (append_nil (fillers_of before))))
+        (λ v l. ap (λ set. has set v) r.fillers ∙ held.fillers v l ∙ ap (member (get_or W' v [])) (sym (append-nil (fillers_of before))))
         (λ t q. absurd (clash q))
 
     -- a 129th rule, or more than 256 places

@@ -1,5 +1,5 @@
 -- The steps by which a column of the table is filled: each is sound, and a column closed under them is complete.
-use Rattle.std.proofs.Common.{◌≡◌, ℕ, suc, ◌+◌, ◌<◌, ◌≤◌, List, [], ◌∷◌, ◌++◌, length, get_or, take, drop, sym, refl, ap, ◌∙◌, subst, subst₂, ⊎_elim, append_assoc, append_nil, zero-add, arith, length-append, take-append-drop, length-take-le}
+use Rattle.std.proofs.Common.{◌≡◌, ℕ, suc, ◌+◌, ◌<◌, ◌≤◌, List, [], ◌∷◌, ◌++◌, length, get_or, take, drop, sym, refl, ap, ◌∙◌, subst, subst₂, ⊎_elim, append_assoc, append-nil, zero-add, arith, length-append, take-append-drop, length-take-le}
 use mathlib.Core.Logic.{∥∥₁_map, ∥∥₁_map₂, ∥∥₁_elim}
 use lib.Seq.{take-length}
 use Rattle.std.proofs.lemmas.Bool.{cases_lt}
@@ -107,7 +107,7 @@ module _ (g : Grammar) (ws : List ℕ) (In : Cells) (n : ℕ) (short : n ≤ len
       let p : ℕ = sp.0 in
       let at : At (rule g r) (length x) (Name d) = (at_from_split (rule g r) x (Name d) (s ++ z) e).0 in
       let seed : In m m q 0 = (closed m (omega arith)).predicts i r (length x) d q a l c at f.0 f.1 in
-      let done : In m p q (0 + length (right (rule g q))) = walk (right (rule g q)) under f.2 m m p q [] [] (omega arith) sp.1 (omega (arith, sp.1, sp.2)) f.0 (sym (append_nil (right (rule g q)))) sp.3 seed in
+      let done : In m p q (0 + length (right (rule g q))) = walk (right (rule g q)) under f.2 m m p q [] [] (omega arith) sp.1 (omega (arith, sp.1, sp.2)) f.0 (sym (append-nil (right (rule g q)))) sp.3 seed in
       onward i p j r x (Name d) s (over i m p r q d x (yield under) a sp.1 (omega (arith, sp.1, sp.2)) l f.0 at f.1 (under, f.2, refl) sp.3 (subst (λ (t : ℕ). In m p q t) (omega arith) done) c)
       (walk s rest f.3 i p j r (x ++ Name d ∷ []) z (omega (arith, sp.1, sp.2)) sp.2 h l (e ∙ sym (append_assoc x (Name d ∷ []) (s ++ z))) sp.4)
   walk (Word v ∷ s) end f i m j r x z a b h l e y c = absurd f

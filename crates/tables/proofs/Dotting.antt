@@ -2,7 +2,7 @@
 use Rattle.std.proofs.Common.{◌≡◌, ℕ, zero, suc, ◌+◌, ◌-◌, ◌<◌, ◌≤◌, Bool, true, false, List, [], ◌∷◌, ◌++◌, map, length, get_or, take, drop, None, Option, sym, refl, ap, ◌∙◌, subst, ⊎_elim, zero-add, arith, length-append}
 use lib.ListN.{length-map}
 use borrow.Author.Tests.{clash}
-use Rattle.std.proofs.lemmas.List.{append_nil, append_assoc, get_or_append_left, get_or-append-add, get_or-map, get_or_past}
+use Rattle.std.proofs.lemmas.List.{append-nil, append_assoc, get_or_append_left, get_or-append-add, get_or-map, get_or_past}
 use Rattle.std.proofs.lemmas.Bool.{cases_lt}
 use Rattle.grammar.specs.declared.Symbol.{Symbol}
 use Rattle.grammar.specs.declared.Rule.{Rule}
@@ -14,9 +14,9 @@ use Rattle.tables.specs.Columns.{first_place}
 use Rattle.tables.proofs.Placing.{place_below}
 
 dots_at : (a : ℕ) (before s : List Symbol) (k : ℕ) (o : Place) → k ≤ length s → get_or (dots a before s) k o ≡ record { left = a; before = before ++ take k s; after = drop k s }
-dots_at a before [] zero o h = ap {B = Place} (λ b. record { left = a; before = b; after = [] }) (sym (append_nil before))
+dots_at a before [] zero o h = ap {B = Place} (λ b. record { left = a; before = b; after = [] }) (sym (append-nil before))
 dots_at a before [] (suc k) o h = absurd (omega arith)
-dots_at a before (x ∷ s) zero o h = ap {B = Place} (λ b. record { left = a; before = b; after = x ∷ s }) (sym (append_nil before))
+dots_at a before (x ∷ s) zero o h = ap {B = Place} (λ b. record { left = a; before = b; after = x ∷ s }) (sym (append-nil before))
 dots_at a before (x ∷ s) (suc k) o h =
     dots_at a (before ++ (x ∷ [])) s k o (omega arith)
     ∙ ap {B = Place} (λ b. record { left = a; before = b; after = drop k s }) (append_assoc before (x ∷ []) (take k s))

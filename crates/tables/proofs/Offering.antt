@@ -1,5 +1,5 @@
 -- Commands, the words that can come next, and the table's cells that show them.
-use Rattle.std.proofs.Common.{◌≡◌, ℕ, suc, ◌+◌, ◌<◌, ◌⊎◌, ◌↔◌, List, [], ◌∷◌, ◌++◌, length, take, drop, sym, refl, ap, ◌∙◌, subst, subst₂, inl, inr, append_assoc, append_nil, arith, length-append}
+use Rattle.std.proofs.Common.{◌≡◌, ℕ, suc, ◌+◌, ◌<◌, ◌⊎◌, ◌↔◌, List, [], ◌∷◌, ◌++◌, length, take, drop, sym, refl, ap, ◌∙◌, subst, subst₂, inl, inr, append_assoc, append-nil, arith, length-append}
 use mathlib.Core.Logic.{∥∥₁_map, ∥∥₁_elim, ∥∥₁_prop}
 use mathlib.Core.List.{head-eq_of_cons-eq, tail-eq_of_cons-eq}
 use lib.Seq.{take-length, take-append_seam}
@@ -47,7 +47,7 @@ leaf g (Name n ∷ s) (tree r under rest) f u w more e = go (leaf g (right (rule
     go a b (in_left y p q) = below [] s [] u r (ap {B = List Symbol} (λ c. Name c ∷ s) (sym f.1)) f.0 (none_matches g) refl (a u w y p)
     go a b (in_right y p q) =
         subst (λ (t : List ℕ). Left g (Name n ∷ s) t (Word w)) (sym p)
-        (cons_left g (Name n) s (yield under) y (Word w) (tree r under end, (f.0, f.1, f.2, tt), append_nil (yield under)) (b y w more q))
+        (cons_left g (Name n) s (yield under) y (Word w) (tree r under end, (f.0, f.1, f.2, tt), append-nil (yield under)) (b y w more q))
 leaf g (Word v ∷ s) end f u w more e = absurd f
 leaf g (Word v ∷ s) (word x rest) f [] w more e = here [] s (ap {B = List Symbol} (λ a. Word a ∷ s) (sym f.0 ∙ head-eq_of_cons-eq e)) (none_matches g)
 leaf g (Word v ∷ s) (word x rest) f (c ∷ u) w more e =
@@ -123,7 +123,7 @@ opens_symbol g h v r k y x w o l at n m =
 
 reached_opens : (g : Grammar) → Productive g → (u : List ℕ) (a : ℕ) → Reached g u a → Opens g u a
 reached_opens g h u a (first e q) w m =
-    ∣ ([], subst₂ (λ (b : ℕ) (t : List ℕ). Matches g.rules (Name b ∷ []) t) q (sym (append_nil w) ∙ ap {B = List ℕ} (λ t. t ++ (w ++ [])) (sym e)) m) ∣₁
+    ∣ ([], subst₂ (λ (b : ℕ) (t : List ℕ). Matches g.rules (Name b ∷ []) t) q (sym (append-nil w) ∙ ap {B = List ℕ} (λ t. t ++ (w ++ [])) (sym e)) m) ∣₁
 reached_opens g h u a (next v x r k c l at n e) w m =
     subst (λ (t : List ℕ). ∥ ((more : List ℕ) × Derivation g (t ++ (w ++ more))) ∥₁) (sym e) (opens_symbol g h v r k (Name a) x w (reached_opens g h v (rule g r).left c) l at n m)
 

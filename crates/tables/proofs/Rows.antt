@@ -1,5 +1,5 @@
 -- Rows of trees joined and split, and what lists of symbols match.
-use Rattle.std.proofs.Common.{◌≡◌, ℕ, suc, ◌+◌, ◌-◌, ◌<◌, ◌≤◌, min, List, [], ◌∷◌, ◌++◌, length, get_or, take, drop, sym, refl, ap, ◌∙◌, subst, ap₂, append_assoc, append_nil, arith, length-append, length-drop, length-take, length-take-le, take_all, drop-cons, get_or-take, take-suc, take-take, drop-drop, take_at, take-add, drop_at}
+use Rattle.std.proofs.Common.{◌≡◌, ℕ, suc, ◌+◌, ◌-◌, ◌<◌, ◌≤◌, min, List, [], ◌∷◌, ◌++◌, length, get_or, take, drop, sym, refl, ap, ◌∙◌, subst, ap₂, append_assoc, append-nil, arith, length-append, length-drop, length-take, length-take-le, take_all, drop-cons, get_or-take, take-suc, take-take, drop-drop, take_at, take-add, drop_at}
 use mathlib.Core.List.{head-eq_of_cons-eq, tail-eq_of_cons-eq}
 use lib.Seq.{take-append_seam, drop-append_seam, split_at, get_or-append_seam}
 use Rattle.std.proofs.lemmas.List.{drop-take, get_or_default}
@@ -94,7 +94,7 @@ pub word_matches : (g : Grammar) (w : ℕ) → Matches g.rules (Word w ∷ []) (
 word_matches g w = (word w end, (refl, tt), refl)
 
 pub name_matches : (g : Grammar) (r : ℕ) (v : List ℕ) → r < length g.rules → Matches g.rules (right (rule g r)) v → Matches g.rules (Name (rule g r).left ∷ []) v
-name_matches g r v l m = (tree r m.0 end, (l, refl, m.1, tt), append_nil (yield m.0) ∙ m.2)
+name_matches g r v l m = (tree r m.0 end, (l, refl, m.1, tt), append-nil (yield m.0) ∙ m.2)
 
 -- the rule at the top of a tree
 pub record Rooted (g : Grammar) (a : ℕ) (v : List ℕ) : Type 0 where
@@ -106,7 +106,7 @@ pub record Rooted (g : Grammar) (a : ℕ) (v : List ℕ) : Type 0 where
 pub name_matched : (g : Grammar) (a : ℕ) (v : List ℕ) → Matches g.rules (Name a ∷ []) v → Rooted g a v
 name_matched g a v (end, f, e) = absurd f
 name_matched g a v (word w rest, f, e) = absurd f
-name_matched g a v (tree r below end, f, e) = record { by = r; listed = f.0; left = f.1; matches = (below, f.2, sym (append_nil (yield below)) ∙ e) }
+name_matched g a v (tree r below end, f, e) = record { by = r; listed = f.0; left = f.1; matches = (below, f.2, sym (append-nil (yield below)) ∙ e) }
 name_matched g a v (tree r below (word w rest), f, e) = absurd f.3
 name_matched g a v (tree r below (tree q under rest), f, e) = absurd f.3
 

@@ -1,5 +1,5 @@
 -- A row and a table of bounds as a certificate: the row is a cheapest reading.
-use Rattle.std.proofs.Common.{◌≡◌, ℕ, zero, suc, ◌-◌, Bool, true, ◌&&◌, eqb, leb, List, [], ◌∷◌, ◌++◌, map, length, take, drop, Some, sym, refl, ap, ◌∙◌, subst, append_nil, arith}
+use Rattle.std.proofs.Common.{◌≡◌, ℕ, zero, suc, ◌-◌, Bool, true, ◌&&◌, eqb, leb, List, [], ◌∷◌, ◌++◌, map, length, take, drop, Some, sym, refl, ap, ◌∙◌, subst, append-nil, arith}
 use lib.Seq.{take-length}
 use Rattle.std.proofs.lemmas.Bool.{and_parts, eqb-true, leb-true, le-leb}
 use Rattle.grammar.specs.declared.Symbol.TheVariants.{Name}
@@ -45,7 +45,7 @@ drop_none (suc n) = refl
 
 -- what a list that was empty holds after a form is written there
 written_is : (f : List ℕ) (n : ℕ) → f ++ drop n [] ≡ f
-written_is f n = ap (λ (xs : List ℕ). f ++ xs) (drop_none n) ∙ append_nil f
+written_is f n = ap (λ (xs : List ℕ). f ++ xs) (drop_none n) ∙ append-nil f
 
 module _ (s : Sheet) (ps : List Plain) (says : map plain (rules_of s) ≡ ps) where
   abbrev pub derived : (ws : List ℕ) (row : Row) → derives ps ws row ≡ true → Derivation (grammar_of s) ws

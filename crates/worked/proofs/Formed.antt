@@ -1,5 +1,5 @@
 -- Bounds by points that settle the form too: a row costs no less, and where it costs just that, it is written so.
-use Rattle.std.proofs.Common.{◌≡◌, ℕ, suc, ◌+◌, ◌-◌, ◌^◌, ◌<◌, ◌≤◌, Bool, true, false, cond, ◌&&◌, ◌||◌, eqb, ltb, List, [], ◌∷◌, ◌++◌, map, length, sym, refl, ap, ◌∙◌, subst, ap₂, ⊎_elim, append_nil, arith}
+use Rattle.std.proofs.Common.{◌≡◌, ℕ, suc, ◌+◌, ◌-◌, ◌^◌, ◌<◌, ◌≤◌, Bool, true, false, cond, ◌&&◌, ◌||◌, eqb, ltb, List, [], ◌∷◌, ◌++◌, map, length, sym, refl, ap, ◌∙◌, subst, ap₂, ⊎_elim, append-nil, arith}
 use Rattle.std.proofs.lemmas.Bool.{and_parts, or_cases, eqb-true, ltb-true, ltb-false}
 use Rattle.grammar.specs.Grammar.{Grammar}
 use Rattle.grammar.specs.Trees.{Row, end, tree, yield}
@@ -72,7 +72,7 @@ module _ (g : Grammar) (ps : List Plain) (says : map plain g.rules ≡ ps) where
         λ e s.
             let parts = and_parts b.sure (free w b.price) s in
             let same = sum_parts w b.price w (cost under) (omega arith) h.0 (ltb-true (w + b.price) (2 ^ 32 - 1) parts.1) (sym is ∙ e) in
-            append_nil (cond none (0 ∷ []) (suc r ∷ form under)) ∙ ap (λ (f : List ℕ). cond none (0 ∷ []) (suc r ∷ f)) (h.1 same.1 parts.0),
+            append-nil (cond none (0 ∷ []) (suc r ∷ form under)) ∙ ap (λ (f : List ℕ). cond none (0 ∷ []) (suc r ∷ f)) (h.1 same.1 parts.0),
       )
 
   besides : (a b : Best) (r : ℕ) (under rest : Row) → Settles a (tree r under end) → Settles b rest → Settles (after a b) (tree r under rest)
@@ -84,7 +84,7 @@ module _ (g : Grammar) (ps : List Plain) (says : map plain g.rules ≡ ps) where
             let one = and_parts a.sure _ s in
             let two = and_parts b.sure (free a.price b.price) one.1 in
             let same = sum_parts a.price b.price (cost (tree r under end)) (cost rest) h.0 k.0 (ltb-true (a.price + b.price) (2 ^ 32 - 1) two.1) (is ∙ e) in
-            ap₂ (λ (x y : List ℕ). x ++ y) (sym (append_nil head) ∙ h.1 same.0 one.0) (k.1 same.1 two.0),
+            ap₂ (λ (x y : List ℕ). x ++ y) (sym (append-nil head) ∙ h.1 same.0 one.0) (k.1 same.1 two.0),
       )
 
   left : (a b : Best) (row : Row) → Settles a row → Settles (cheaper a b) row

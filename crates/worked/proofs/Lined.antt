@@ -1,5 +1,5 @@
 -- Lines of rules alone, in order by a test.
-use Rattle.std.proofs.Common.{◌≡◌, ℕ, Bool, true, false, ◌&&◌, leb, List, [], ◌∷◌, ◌++◌, length, sym, subst, append_assoc, append_nil}
+use Rattle.std.proofs.Common.{◌≡◌, ℕ, Bool, true, false, ◌&&◌, leb, List, [], ◌∷◌, ◌++◌, length, sym, subst, append_assoc, append-nil}
 use mathlib.Core.List.{head-eq_of_cons-eq, tail-eq_of_cons-eq}
 use Rattle.std.specs.List.{AllByRecursion as All}
 use Rattle.std.proofs.lemmas.Bool.{and_parts, leb-true, false≢true}
@@ -90,7 +90,7 @@ accepted_after done (m ∷ ms) h [] after ℓ e =
     let one = and_parts (ruled m) _ h in
     let two = and_parts (roomy (done ++ (m ∷ []))) _ one.1 in
     let here : Fine done m = ((is_small m one.0, has_room (done ++ (m ∷ [])) two.0), no_second done m one.0) in
-    subst (λ (b : List Line). Fine b ℓ) (sym (append_nil done)) (subst (λ (x : Line). Fine done x) (head-eq_of_cons-eq e) here)
+    subst (λ (b : List Line). Fine b ℓ) (sym (append-nil done)) (subst (λ (x : Line). Fine done x) (head-eq_of_cons-eq e) here)
 accepted_after done (m ∷ ms) h (b ∷ bs) after ℓ e =
     let one = and_parts (ruled m) _ h in
     let two = and_parts (roomy (done ++ (m ∷ []))) _ one.1 in

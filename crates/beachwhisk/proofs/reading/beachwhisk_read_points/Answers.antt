@@ -4,7 +4,7 @@ use Rattle.beachwhisk.specs.Calls.{done, no_sheet}
 use Rattle.beachwhisk.proofs.reading.beachwhisk_read_points.Goals as goal
 
 pub returns-in-Ok : goal.returns-in-Ok
-returns-in-Ok c = (telling c.read.result, c.by-points.ensures, done c.load.new.sheet c.in-Ok.ensures c.read.ensures)
+returns-in-Ok c = (telling c.read.result, c.by_points.ensures, done c.load.new.sheet c.in-Ok.ensures c.read.ensures)
 
 pub returns-in-Err : goal.returns-in-Err
 returns-in-Err c =

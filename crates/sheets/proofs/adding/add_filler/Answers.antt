@@ -1,6 +1,6 @@
 use Rattle.std.proofs.Common.{◌^◌, ◌<◌, [], ◌∷◌, ◌++◌, sym, refl, ap, ◌∙◌, add-zero, rules}
 use lib.Bits.{bit_or}
-use Rattle.std.proofs.lemmas.List.{append_nil}
+use Rattle.std.proofs.lemmas.List.{append-nil}
 use Rattle.grammar.specs.Bits.{has}
 use Rattle.grammar.proofs.BitSets.{with_below}
 use Rattle.sheets.specs.Lines.{filler}
@@ -35,7 +35,7 @@ returns c before drafted =
     let at = word_at before (names_of before) W s k c.args.draft.now e w held in
     let apart : Apart W = apart_all (words_of before) (s ∷ []) (apart_words before) in
     let done = more before (filler s) e _ held refl refl refl refl (sym (add-zero e.rule_count)) (sym (add-zero e.alias_count))
-    (held.rules ∙ sym (append_nil (productions before))) (held.aliases ∙ sym (append_nil (renamings before))) (held.places ∙ sym (add-zero (places_of before)))
+    (held.rules ∙ sym (append-nil (productions before))) (held.aliases ∙ sym (append-nil (renamings before))) (held.places ∙ sym (add-zero (places_of before)))
     (λ v l. ap (λ set. has set v) c.with-number-draft.ensures ∙ filler_set W (fillers_of before) s k at.0 at.1 e.fillers apart held.fillers v l)
     (filler_known W (fillers_of before) s k at.0 at.1) in
     (done, (c.if-word-gt15.false, room (before ++ (filler s ∷ [])) _ done), λ z. z)
