@@ -22,7 +22,7 @@ pub extern "C" fn beachwhisk_read_points(
     prices: &mut [u32],
     numbers: &mut [u32],
 ) -> ReadAnswer
-    ensures { (a : Result (Reading ℕ) Told) × (result ≡ reading_of a) × ReadOn points text.now seat hall.now (record { list = list.entry.now; prices = prices.old; numbers = numbers.old }) a (record { list = list.exit.now; prices = prices.new; numbers = numbers.new }) }
+    ensures { (a : Result (Reading ℕ) Told) × (result ≡ reading_of a) × ReadOn points text.now seat hall.now (record { list = list.old; prices = prices.old; numbers = numbers.old }) a (record { list = list.new; prices = prices.new; numbers = numbers.new }) }
 {
     let mut sheet = Sheet::blank();
     match load(text, &mut sheet) {
@@ -43,7 +43,7 @@ pub extern "C" fn beachwhisk_read_worst(
     prices: &mut [u16],
     numbers: &mut [u32],
 ) -> ReadAnswer
-    ensures { (a : Result (Reading ℕ) Told) × (result ≡ reading_of a) × ReadOn worst text.now seat hall.now (record { list = list.entry.now; prices = prices.old; numbers = numbers.old }) a (record { list = list.exit.now; prices = prices.new; numbers = numbers.new }) }
+    ensures { (a : Result (Reading ℕ) Told) × (result ≡ reading_of a) × ReadOn worst text.now seat hall.now (record { list = list.old; prices = prices.old; numbers = numbers.old }) a (record { list = list.new; prices = prices.new; numbers = numbers.new }) }
 {
     let mut sheet = Sheet::blank();
     match load(text, &mut sheet) {

@@ -1,4 +1,6 @@
 // Runs stored inputs through the console's work, and says of each whether it answers as it should.
+#![tactic(auto)]
+
 use answers::input::next_message;
 use replies::run::run;
 use std::{fs, io};

@@ -1,4 +1,6 @@
 // The console: a sheet, an empty line and messages on standard input; a line for each message on standard output.
+#![tactic(auto)]
+
 use replies::run::run;
 use std::io;
 use std::io::{Read, Write};

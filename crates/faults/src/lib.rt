@@ -1,4 +1,6 @@
 // Why a call is refused: the closed list of refusals, the place, and the layer that met it.
+#![tactic(auto)]
+
 ghost use Rattle.std.specs.Prelude.{◌≡◌};
 ghost use Rattle.faults.specs.Faults.{number_of, depth, told, met};
 

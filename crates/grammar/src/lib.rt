@@ -1,4 +1,5 @@
 // What a command sheet holds: rules over names and words, and the sheet type that keeps them in order.
+#![tactic(auto)]
 
 mod bits;
 mod closure;

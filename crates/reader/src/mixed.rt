@@ -41,7 +41,7 @@ pub fn perform_and_hear<T: Source, U: Source, C: Scale>(
     numbers: &mut [u32],
     source: &mut U,
 ) -> (Result<Reading<C::Price>, Fault>, Result<usize, Fault>)
-    ensures { Joined T.Source.meaning sheet.now C.Scale.measure seat hall.old turns.old (record { list = list.entry.now; prices = prices.old; numbers = numbers.old }) (U.Source.meaning source.old) (telling result.0) (telling result.1) hall.new turns.new (record { list = list.exit.now; prices = prices.new; numbers = numbers.new }) (U.Source.meaning source.new) }
+    ensures { Joined T.Source.meaning sheet.now C.Scale.measure seat hall.old turns.old (record { list = list.old; prices = prices.old; numbers = numbers.old }) (U.Source.meaning source.old) (telling result.0) (telling result.1) hall.new turns.new (record { list = list.new; prices = prices.new; numbers = numbers.new }) (U.Source.meaning source.new) }
 {
     let reading = perform::<T, C>(sheet, hall, turns, seat, list, prices, numbers);
     let answer = hear(sheet, hall, seat, source);

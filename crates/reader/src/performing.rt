@@ -64,7 +64,7 @@ pub fn perform<T: Source, C: Scale>(
     prices: &mut [C::Price],
     numbers: &mut [u32],
 ) -> Result<Reading<C::Price>, Fault>
-    ensures { Performed T.Source.meaning sheet.now C.Scale.measure seat hall.old turns.old (record { list = list.entry.now; prices = prices.old; numbers = numbers.old }) (telling result) hall.new turns.new (record { list = list.exit.now; prices = prices.new; numbers = numbers.new }) }
+    ensures { Performed T.Source.meaning sheet.now C.Scale.measure seat hall.old turns.old (record { list = list.old; prices = prices.old; numbers = numbers.old }) (telling result) hall.new turns.new (record { list = list.new; prices = prices.new; numbers = numbers.new }) }
 {
     open(sheet, hall)?;
     for i in 0..turns.len() {

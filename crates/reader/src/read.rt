@@ -15,7 +15,7 @@ use tables::is_command;
 
 // Whether what is lent is long enough.
 fn has_room<P>(list: &[u8], prices: &[P], numbers: &[u32]) -> bool
-    ensures { Decides result (Room (record { list = list.entry.now; prices = prices.now; numbers = numbers.now })) }
+    ensures { Decides result (Room (record { list = list.old; prices = prices.now; numbers = numbers.now })) }
 {
     list.len() >= 10240 && prices.len() >= 8192 && numbers.len() >= 8192
 }
@@ -52,7 +52,7 @@ fn read_seat<C: Scale>(
     requires long { length seat.now ≡ 945 }
     requires whole { Whole sheet.now seat.now }
     requires room { Room (record { list = list.now; prices = prices.old; numbers = numbers.old }) }
-    ensures { (ws : List ℕ) → Seat sheet.now ws seat.now → Reads sheet.now C.Scale.measure ws (record { list = list.entry.now; prices = prices.old; numbers = numbers.old }) (settled result) (record { list = list.exit.now; prices = prices.new; numbers = numbers.new }) }
+    ensures { (ws : List ℕ) → Seat sheet.now ws seat.now → Reads sheet.now C.Scale.measure ws (record { list = list.old; prices = prices.old; numbers = numbers.old }) (settled result) (record { list = list.new; prices = prices.new; numbers = numbers.new }) }
 {
     let count = seat[0] as usize;
     if !is_command(sheet, &seat[21..945], count) {
@@ -81,7 +81,7 @@ pub fn read<C: Scale>(
     prices: &mut [C::Price],
     numbers: &mut [u32],
 ) -> Result<Reading<C::Price>, Fault>
-    ensures { Read sheet.now C.Scale.measure seat hall.now (record { list = list.entry.now; prices = prices.old; numbers = numbers.old }) (telling result) (record { list = list.exit.now; prices = prices.new; numbers = numbers.new }) }
+    ensures { Read sheet.now C.Scale.measure seat hall.now (record { list = list.old; prices = prices.old; numbers = numbers.old }) (telling result) (record { list = list.new; prices = prices.new; numbers = numbers.new }) }
 {
     if let Some(fault) = bar(sheet, hall, seat) {
         return Err(fault);

@@ -1,4 +1,5 @@
 // Scales of prices, and the cheapest reading of words on a sheet.
+#![tactic(auto)]
 
 mod cells;
 mod columns;

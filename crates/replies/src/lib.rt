@@ -1,4 +1,5 @@
 // What the console writes, by definition.
+#![tactic(auto)]
 
 mod fault;
 pub mod reply;

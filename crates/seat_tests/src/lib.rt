@@ -1,4 +1,6 @@
 // Tests of the hall: the worked example, the refusals, and halls of any numbers.
+#![tactic(auto)]
+
 use faults::Fault;
 use grammar::sheet::Sheet;
 use seats::hearing::hear;

@@ -1,4 +1,5 @@
 // The hall: four seats, the words standing at each, and their tables.
+#![tactic(auto)]
 
 pub mod calls;
 pub mod hearing;

@@ -1,4 +1,6 @@
 // Tests of the loader: each limit at its edge and one past it, each refusal with its number and place.
+#![tactic(auto)]
+
 use grammar::sheet::Sheet;
 use sheets::load::load;
 use std::alloc::{AllocError, Global};

@@ -1,4 +1,5 @@
 // The text of a command sheet.
+#![tactic(auto)]
 
 mod adding;
 mod drafts;

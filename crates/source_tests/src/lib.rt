@@ -1,4 +1,6 @@
 // Tests of the word sources on odd messages.
+#![tactic(auto)]
+
 use faults::Fault;
 use grammar::sheet::Sheet;
 use sheets::load::load;

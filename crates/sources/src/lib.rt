@@ -1,4 +1,5 @@
 // Word sources: what is heard, word by word, through layers over one another.
+#![tactic(auto)]
 
 pub mod alias;
 pub mod codes;

@@ -1,4 +1,6 @@
 // Rounds of calls for the benchmark, over memory that the caller owns. A refusal is answered by the largest number.
+#![tactic(auto)]
+
 use grammar::sheet::Sheet;
 use reader::read::read;
 use readings::scale::{Points, Worst};

@@ -1,4 +1,6 @@
 // The table of dotted rules: the fill of a column, the words that can come next, and whether the words are a command.
+#![tactic(auto)]
+
 ghost use Rattle.std.specs.Prelude.{◌≡◌, ℕ, ◌<◌, ◌≤◌, true, ◌↔◌, List, length};
 ghost use Rattle.items.specs.Members.{bit};
 ghost use Rattle.grammar.specs.Trees.{Command};

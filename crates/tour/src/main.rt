@@ -1,4 +1,6 @@
 // A tour of one task: a command sheet and messages on standard input, read to their end, each step printed.
+#![tactic(auto)]
+
 mod columns;
 mod faulted;
 mod messages;

@@ -1,5 +1,7 @@
 // Runs cases through the library and says how many agree with what is written in them.
 // The cases are in the files that the arguments name, or on standard input.
+#![tactic(auto)]
+
 mod batch;
 mod decoding;
 mod forms;

@@ -1,4 +1,6 @@
 // What was worked out on paper, proved of the definitions.
+#![tactic(auto)]
+
 ghost use Rattle.std.specs.Prelude.{◌≡◌};
 ghost use Rattle.worked.specs.Cases.{Worked};
 ghost use Rattle.worked.specs.Findings.{lathe_sheet};

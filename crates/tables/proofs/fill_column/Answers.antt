@@ -9,6 +9,6 @@ returns c =
     let s = c.args.sheet.now in
     let g = grammar_of s in
     record {
-      exact = λ ws. c.column.ensures.exact g ws (sheet_marked s _ c.masks.ensures) (subst (λ (n : ℕ). Named g n) (sym c.name-count-names.ensures.is) (sheet_named s)) (sym c.start.ensures.is);
+      exact = λ ws. c.column.ensures.exact g ws (sheet_marked s _ c.masks.ensures) (subst (λ (n : ℕ). Named g n) (sym c.name_count-names.ensures.is) (sheet_named s)) (sym c.start.ensures.is);
       others = c.column.ensures.others;
     }

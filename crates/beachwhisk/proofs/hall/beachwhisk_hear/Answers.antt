@@ -5,7 +5,7 @@ use Rattle.beachwhisk.proofs.hall.beachwhisk_hear.Goals as goal
 
 pub returns-in-Ok : goal.returns-in-Ok
 returns-in-Ok c =
-    let x = c.hear-message.ensures in
+    let x = c.hear_message.ensures in
     (x.0, x.1, done c.load.new.sheet c.in-Ok.ensures x.2)
 
 pub returns-in-Err : goal.returns-in-Err

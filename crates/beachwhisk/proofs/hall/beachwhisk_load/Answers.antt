@@ -4,7 +4,7 @@ use Rattle.beachwhisk.specs.Calls.{done, no_sheet}
 use Rattle.beachwhisk.proofs.hall.beachwhisk_load.Goals as goal
 
 pub returns-in-Ok : goal.returns-in-Ok
-returns-in-Ok c = (Ok c.word-count.result, c.given.ensures, done c.load.new.sheet c.in-Ok.ensures (ap Ok c.word-count.ensures))
+returns-in-Ok c = (Ok c.word_count.result, c.given.ensures, done c.load.new.sheet c.in-Ok.ensures (ap Ok c.word_count.ensures))
 
 pub returns-in-Err : goal.returns-in-Err
 returns-in-Err c =

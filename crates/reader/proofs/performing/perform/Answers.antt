@@ -16,7 +16,7 @@ loop-i-init g c =
 pub loop-i-preserved : goal.loop-i-preserved
 loop-i-preserved g c =
     let l = c.loop-i in
-    so_far_more g.T.Source.meaning c.args.sheet.now c.args.turns.now l.i l.turns l.hall l.invariant c.index-turns-i.result c.take-turn.new.turn c.take-turn.new.hall (omega arith) c.take-turn.ensures
+    so_far_more g.T.Source.meaning c.args.sheet.now c.args.turns.now l.i l.turns l.hall l.invariant c.index-turns-i.result c.take_turn.new.turn c.take_turn.new.hall (omega arith) c.take_turn.ensures
 
 pub returns-in-err-open : goal.returns-in-err-open
 returns-in-err-open g c =

@@ -4,22 +4,22 @@ use Rattle.seats.proofs.SeatLent.{not_passed}
 use Rattle.reader.proofs.Copies.{last_column, copied, reads, reads_none}
 use Rattle.reader.proofs.read.read_seat.Goals as goal
 
-pub returns-then-not-is-command : goal.returns-then-not-is-command
-returns-then-not-is-command g c = λ ws stand.
+pub returns-then-not-is_command : goal.returns-then-not-is_command
+returns-then-not-is_command g c = λ ws stand.
     let s = c.args.sheet.now in
     let xs = c.args.seat.now in
-    let command = c.is-command.ensures ws (seat_count s ws xs stand) (last_column s ws xs stand) in
+    let command = c.is_command.ensures ws (seat_count s ws xs stand) (last_column s ws xs stand) in
     reads_none s g.C.Scale.measure ws (record { list = c.args.list.now; prices = c.args.prices.now; numbers = c.args.numbers.now })
-    (not_passed command.1 c.if-not-is-command.true)
+    (not_passed command.1 c.if-not-is_command.true)
 
 pub returns : goal.returns
 returns g c = λ ws stand.
     let s = c.args.sheet.now in
     let xs = c.args.seat.now in
-    let words = c.copy-words-words.result in
-    let last = c.write-reading.new in
-    let command = (c.is-command.ensures ws (seat_count s ws xs stand) (last_column s ws xs stand)).0 c.if-not-is-command.false in
+    let words = c.copy_words-words.result in
+    let last = c.write_reading.new in
+    let command = (c.is_command.ensures ws (seat_count s ws xs stand) (last_column s ws xs stand)).0 c.if-not-is_command.false in
     reads s g.C.Scale.measure ws (take (get_or xs 0 0) words)
     (record { list = c.args.list.now; prices = c.args.prices.now; numbers = c.args.numbers.now })
     (record { list = last.list; prices = last.prices; numbers = last.numbers })
-    c.write-reading.result c.write-reading.ensures command (copied s ws xs stand words (omega arith) c.copy-words-words.ensures)
+    c.write_reading.result c.write_reading.ensures command (copied s ws xs stand words (omega arith) c.copy_words-words.ensures)

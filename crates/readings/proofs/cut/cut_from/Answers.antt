@@ -3,7 +3,7 @@ use Rattle.readings.proofs.Cuts.{column_end}
 use Rattle.readings.proofs.cut.cut_from.Goals as goal
 
 pub loop-e-init : goal.loop-e-init
-loop-e-init g c = (c.requires.0.7, λ n x y. column_end g.S.Scale.measure g.met.S.Scale.lawful _ c.args.rule.now n c.args.cell.j _ (c.end-column.ensures n x y))
+loop-e-init g c = (c.requires.0.7, λ n x y. column_end g.S.Scale.measure g.met.S.Scale.lawful _ c.args.rule.now n c.args.cell.j _ (c.end_column.ensures n x y))
 
 pub prepend-requires : goal.prepend-requires
 prepend-requires g c =

@@ -7,14 +7,14 @@ use Rattle.readings.proofs.cut.extend.Goals as goal
 pub loop-n-init : goal.loop-n-init
 loop-n-init g c = cut_none g.S.Scale.measure g.met.S.Scale.lawful _ _ _ _ _
 
-pub symbol-price-first-requires : goal.symbol-price-first-requires
-symbol-price-first-requires g c = ((omega arith, omega arith, omega arith, omega arith, omega arith), c.requires.1.2 c.args.d (omega arith))
+pub symbol_price-first-requires : goal.symbol_price-first-requires
+symbol_price-first-requires g c = ((omega arith, omega arith, omega arith, omega arith, omega arith), c.requires.1.2 c.args.d (omega arith))
 
 pub loop-n-preserved : goal.loop-n-preserved
 loop-n-preserved g c =
-    cut_turn g.S.Scale.measure g.met.S.Scale.lawful _ _ _ _ _ c.loop-n.n c.loop-n.best c.symbol-price-first.result c.read-column.result c.join-both.result c.pick-cheaper-best.result
-    c.loop-n.auto.n c.symbol-price-first.ensures c.join-both.ensures c.pick-cheaper-best.ensures c.loop-n.invariant
-    (subst (Least g.S.Scale.measure _) (sym c.read-column.ensures) (rw (add-one c.args.d) at (c.requires.2 c.loop-n.n c.loop-n.auto.n (omega arith))))
+    cut_turn g.S.Scale.measure g.met.S.Scale.lawful _ _ _ _ _ c.loop-n.n c.loop-n.best c.symbol_price-first.result c.read_column.result c.join_both.result c.pick_cheaper-best.result
+    c.loop-n.auto.n c.symbol_price-first.ensures c.join_both.ensures c.pick_cheaper-best.ensures c.loop-n.invariant
+    (subst (Least g.S.Scale.measure _) (sym c.read_column.ensures) (rw (add-one c.args.d) at (c.requires.2 c.loop-n.n c.loop-n.auto.n (omega arith))))
 
 pub returns : goal.returns
 returns g c =

@@ -6,17 +6,17 @@ use Rattle.readings.proofs.ends.choose.Goals as goal
 pub loop-n-init : goal.loop-n-init
 loop-n-init g c = choosing_none g.S.Scale.measure g.met.S.Scale.lawful _ _ _ _ _ c.args.m
 
-pub symbol-price-first-requires : goal.symbol-price-first-requires
-symbol-price-first-requires g c = ((omega arith, omega arith, omega arith, omega arith, omega arith), c.requires.1.2 c.args.d (omega arith))
+pub symbol_price-first-requires : goal.symbol_price-first-requires
+symbol_price-first-requires g c = ((omega arith, omega arith, omega arith, omega arith, omega arith), c.requires.1.2 c.args.d (omega arith))
 
 pub loop-n-preserved : goal.loop-n-preserved
 loop-n-preserved g c =
     elim c.if-improves.branch [
-      | goal.then-improves w ↦ choosing_take g.S.Scale.measure g.met.S.Scale.lawful _ _ _ _ _ c.loop-n.n c.loop-n.to c.loop-n.best c.symbol-price-first.result c.read-column.result c.join-both-both.result c.if-improves.to c.if-improves.best w.to-is w.best-is
-          c.loop-n.auto.n c.symbol-price-first.ensures c.join-both-both.ensures (subst (Least g.S.Scale.measure _) (sym c.read-column.ensures) (c.requires.2 c.loop-n.n c.loop-n.auto.n (omega arith)))
+      | goal.then-improves w ↦ choosing_take g.S.Scale.measure g.met.S.Scale.lawful _ _ _ _ _ c.loop-n.n c.loop-n.to c.loop-n.best c.symbol_price-first.result c.read_column.result c.join_both-both.result c.if-improves.to c.if-improves.best w.to-is w.best-is
+          c.loop-n.auto.n c.symbol_price-first.ensures c.join_both-both.ensures (subst (Least g.S.Scale.measure _) (sym c.read_column.ensures) (c.requires.2 c.loop-n.n c.loop-n.auto.n (omega arith)))
           (c.improves.ensures.yes w.if-improves.true) c.loop-n.invariant
-      | goal.else-improves w ↦ choosing_keep g.S.Scale.measure g.met.S.Scale.lawful _ _ _ _ _ c.loop-n.n c.loop-n.to c.loop-n.best c.symbol-price-first.result c.read-column.result c.join-both-both.result c.if-improves.to c.if-improves.best w.to-is w.best-is
-          c.loop-n.auto.n c.symbol-price-first.ensures c.join-both-both.ensures (subst (Least g.S.Scale.measure _) (sym c.read-column.ensures) (c.requires.2 c.loop-n.n c.loop-n.auto.n (omega arith)))
+      | goal.else-improves w ↦ choosing_keep g.S.Scale.measure g.met.S.Scale.lawful _ _ _ _ _ c.loop-n.n c.loop-n.to c.loop-n.best c.symbol_price-first.result c.read_column.result c.join_both-both.result c.if-improves.to c.if-improves.best w.to-is w.best-is
+          c.loop-n.auto.n c.symbol_price-first.ensures c.join_both-both.ensures (subst (Least g.S.Scale.measure _) (sym c.read_column.ensures) (c.requires.2 c.loop-n.n c.loop-n.auto.n (omega arith)))
           (c.improves.ensures.no w.if-improves.false) c.loop-n.invariant
     ]
 

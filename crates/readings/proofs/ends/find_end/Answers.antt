@@ -5,5 +5,5 @@ pub choose-requires : goal.choose-requires
 choose-requires g c = (
   (omega arith, omega arith, omega arith, omega arith, omega arith, omega arith, omega arith, omega arith),
   c.requires.1,
-  λ n x y. c.cut-from.ensures n (omega arith) y,
+  λ n x y. c.cut_from.ensures n (omega arith) y,
 )

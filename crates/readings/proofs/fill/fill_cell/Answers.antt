@@ -3,10 +3,10 @@ use Rattle.readings.proofs.Fills.{filling_start, filling_done, filling_full}
 use Rattle.readings.proofs.fill.fill_cell.Goals as goal
 
 pub loop-k-init : goal.loop-k-init
-loop-k-init g c = (filling_start c.args.rules.now g.S.Scale.measure g.met.S.Scale.lawful _ _ _ _ (rw (add-one c.args.i) at c.requires.2), c.offer-all.ensures, omega arith)
+loop-k-init g c = (filling_start c.args.rules.now g.S.Scale.measure g.met.S.Scale.lawful _ _ _ _ (rw (add-one c.args.i) at c.requires.2), c.offer_all.ensures, omega arith)
 
-pub price-next-requires : goal.price-next-requires
-price-next-requires g c =
+pub price_next-requires : goal.price_next-requires
+price_next-requires g c =
     record {
       bounds = (omega arith, omega arith, omega arith, omega arith, omega arith, omega arith, omega arith, omega arith, omega arith, omega arith, omega arith);
       formed = c.requires.1;
@@ -14,11 +14,11 @@ price-next-requires g c =
       gathered = c.loop-k.invariant.1;
     }
 
-pub returns-then-not-price-next : goal.returns-then-not-price-next
-returns-then-not-price-next g c = c.price-next.ensures.last c.if-not-price-next.true
+pub returns-then-not-price_next : goal.returns-then-not-price_next
+returns-then-not-price_next g c = c.price_next.ensures.last c.if-not-price_next.true
 
 pub loop-k-preserved : goal.loop-k-preserved
-loop-k-preserved g c = (c.price-next.ensures.filling c.if-not-price-next.false, c.price-next.ensures.gathered c.if-not-price-next.false, omega arith)
+loop-k-preserved g c = (c.price_next.ensures.filling c.if-not-price_next.false, c.price_next.ensures.gathered c.if-not-price_next.false, omega arith)
 
 pub returns : goal.returns
 returns g c =

@@ -1,8 +1,8 @@
 use Rattle.std.proofs.Common.{◌≡◌, ◌+◌, ◌-◌, arith}
 use Rattle.readings.proofs.fill.fill_column.Goals as goal
 
-pub fill-cell-requires : goal.fill-cell-requires
-fill-cell-requires g c =
+pub fill_cell-requires : goal.fill_cell-requires
+fill_cell-requires g c =
     let e : c.loop-i.i - 1 + 1 ≡ c.loop-i.i = omega arith in
     ((omega arith, omega arith, omega arith, omega arith, omega arith, omega arith, omega arith, omega arith, omega arith), c.requires.1, rw e c.loop-i.invariant)
 

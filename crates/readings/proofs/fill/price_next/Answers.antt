@@ -9,36 +9,36 @@ apart e = let z : ◌≡◌ {A = ℕ} 0 1 = cc in omega arith
 pub returns-in-default : goal.returns-in-default
 returns-in-default g c =
     record {
-      last = λ _. filling_last c.args.rules.now g.S.Scale.measure g.met.S.Scale.lawful _ _ _ _ c.args.cell.k c.cheapest-offer-found.result.rule c.cheapest-offer-found.result.price c.in-default.is
-          (foremost_best c.args.rules.now g.S.Scale.measure g.met.S.Scale.lawful _ _ _ _ _ _ _ _ c.requires.gathered c.cheapest-offer-found.ensures) c.requires.filling;
+      last = λ _. filling_last c.args.rules.now g.S.Scale.measure g.met.S.Scale.lawful _ _ _ _ c.args.cell.k c.cheapest_offer-found.result.rule c.cheapest_offer-found.result.price c.in-default.is
+          (foremost_best c.args.rules.now g.S.Scale.measure g.met.S.Scale.lawful _ _ _ _ _ _ _ _ c.requires.gathered c.cheapest_offer-found.ensures) c.requires.filling;
       filling = λ e. absurd (apart (sym e));
       gathered = λ e. absurd (apart (sym e));
     }
 
 pub bounds-rules-found : goal.bounds-rules-found
-bounds-rules-found g c = (c.cheapest-offer-found.ensures.stands c.in-Some.p c.in-Some.is).0
+bounds-rules-found g c = (c.cheapest_offer-found.ensures.stands c.in-Some.p c.in-Some.is).0
 
 pub offset-bounds-rules-found : goal.offset-bounds-rules-found
-offset-bounds-rules-found g c = let h = (c.cheapest-offer-found.ensures.stands c.in-Some.p c.in-Some.is).0 in omega (arith, h)
+offset-bounds-rules-found g c = let h = (c.cheapest_offer-found.ensures.stands c.in-Some.p c.in-Some.is).0 in omega (arith, h)
 
-pub put-price-requires : goal.put-price-requires
-put-price-requires g c =
-    let h = (c.cheapest-offer-found.ensures.stands c.in-Some.p c.in-Some.is).0 in
-    (omega arith, omega arith, (c.requires.formed c.cheapest-offer-found.result.rule h).0, omega arith, omega arith, omega arith, omega arith)
+pub put_price-requires : goal.put_price-requires
+put_price-requires g c =
+    let h = (c.cheapest_offer-found.ensures.stands c.in-Some.p c.in-Some.is).0 in
+    (omega arith, omega arith, (c.requires.formed c.cheapest_offer-found.result.rule h).0, omega arith, omega arith, omega arith, omega arith)
 
 pub reprice-requires : goal.reprice-requires
 reprice-requires g c = (
   (omega arith, omega arith, omega arith, omega arith, omega arith, omega arith, omega arith, omega arith, omega arith),
   c.requires.formed,
-  repriced_none g.S.Scale.measure g.met.S.Scale.lawful _ _ _ _ _ _ _ _ _ c.put-price.ensures c.requires.filling.ranked c.args.rules.now _ c.requires.gathered,
+  repriced_none g.S.Scale.measure g.met.S.Scale.lawful _ _ _ _ _ _ _ _ _ c.put_price.ensures c.requires.filling.ranked c.args.rules.now _ c.requires.gathered,
 )
 
 pub returns : goal.returns
 returns g c =
-    let h = (c.cheapest-offer-found.ensures.stands c.in-Some.p c.in-Some.is).0 in
+    let h = (c.cheapest_offer-found.ensures.stands c.in-Some.p c.in-Some.is).0 in
     record {
       last = λ e. absurd (apart e);
-      filling = λ _. filling_next c.args.rules.now g.S.Scale.measure g.met.S.Scale.lawful _ _ _ _ c.args.cell.k _ c.cheapest-offer-found.result.rule c.cheapest-offer-found.result.price c.in-Some.p c.in-Some.is (omega arith) (omega arith)
-          (c.requires.formed c.cheapest-offer-found.result.rule h).0 (foremost_best c.args.rules.now g.S.Scale.measure g.met.S.Scale.lawful _ _ _ _ _ _ _ _ c.requires.gathered c.cheapest-offer-found.ensures) c.put-price.ensures c.requires.filling;
+      filling = λ _. filling_next c.args.rules.now g.S.Scale.measure g.met.S.Scale.lawful _ _ _ _ c.args.cell.k _ c.cheapest_offer-found.result.rule c.cheapest_offer-found.result.price c.in-Some.p c.in-Some.is (omega arith) (omega arith)
+          (c.requires.formed c.cheapest_offer-found.result.rule h).0 (foremost_best c.args.rules.now g.S.Scale.measure g.met.S.Scale.lawful _ _ _ _ _ _ _ _ c.requires.gathered c.cheapest_offer-found.ensures) c.put_price.ensures c.requires.filling;
       gathered = λ _. c.reprice.ensures;
     }

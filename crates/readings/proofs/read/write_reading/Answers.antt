@@ -4,14 +4,14 @@ use Rattle.grammar.specs.Closure.{AllFormed}
 use Rattle.readings.proofs.Sheets.{rules_formed, rules_some, rules_few}
 use Rattle.readings.proofs.read.write_reading.Goals as goal
 
-pub fill-table-requires : goal.fill-table-requires
-fill-table-requires g c =
+pub fill_table-requires : goal.fill_table-requires
+fill_table-requires g c =
     let e = sym c.rules-rules.ensures in
     let l : length c.rules-rules.result.now ≤ 128 = subst (λ (rs : List Rule). length rs ≤ 128) e (rules_few c.args.sheet.now) in
     ((omega arith, omega arith, omega arith, omega arith, omega arith, omega arith, omega arith), subst (AllFormed 32 64) e (rules_formed c.args.sheet.now))
 
-pub read-table-requires : goal.read-table-requires
-read-table-requires g c =
+pub read_table-requires : goal.read_table-requires
+read_table-requires g c =
     let e = sym c.rules-rules.ensures in
     let l : length c.rules-rules.result.now ≤ 128 = subst (λ (rs : List Rule). length rs ≤ 128) e (rules_few c.args.sheet.now) in
     let f = subst (AllFormed 32 64) e (rules_formed c.args.sheet.now) in
@@ -19,5 +19,5 @@ read-table-requires g c =
     record {
       bounds = ((f 0 s).0, omega arith, omega arith, omega arith, omega arith, omega arith, omega arith, omega arith);
       formed = f;
-      filled = c.fill-table.ensures;
+      filled = c.fill_table.ensures;
     }

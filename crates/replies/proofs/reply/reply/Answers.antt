@@ -8,7 +8,7 @@ returns-in-Ok c =
     let got = c.in-Ok.ensures in
     let s = c.args.sheet.now in
     let before = vec_items c.args.out.now in
-    let after = vec_items c.push-heard.new.out in
-    made_so c.push-heard.result _ _
+    let after = vec_items c.push_heard.new.out in
+    made_so c.push_heard.result _ _
     (λ _ heard. heard_reply s c.args.message.now before after got.0 (subst (λ m. HeardAnswer s m before after) got.1 heard))
-    c.push-heard.ensures
+    c.push_heard.ensures

@@ -6,8 +6,8 @@ use Rattle.seats.proofs.Keeping.{changed_keeps, back_local}
 use Rattle.seats.proofs.SeatLent.{changed_barred, changed_lent, loan_whole}
 use Rattle.seats.proofs.calls.back.Goals as goal
 
-pub take-off-requires : goal.take-off-requires
-take-off-requires c =
+pub take_off-requires : goal.take_off-requires
+take_off-requires c =
     let hall = c.args.hall.now in
     let k = c.args.seat in
     let free = c.in-None.ensures in
@@ -27,10 +27,10 @@ returns-in-None c =
     let s = c.args.sheet.now in
     let hall = c.args.hall.now in
     let k = c.args.seat in
-    let r = telling c.take-off.result in
-    let ys = c.take-off.new.seat in
-    let exact = c.take-off.ensures.taken in
+    let r = telling c.take_off.result in
+    let ys = c.take_off.new.seat in
+    let exact = c.take_off.ensures.taken in
     let made =
-    changed_lent s k hall c.in-None.ensures (back_at k) r ys c.take-off.auto.seat
-    (λ ws stand. let x = exact ws stand in (x.0, (x.1, refl), x.2)) c.take-off.ensures.untouched in
+    changed_lent s k hall c.in-None.ensures (back_at k) r ys c.take_off.auto.seat
+    (λ ws stand. let x = exact ws stand in (x.0, (x.1, refl), x.2)) c.take_off.ensures.untouched in
     record { made = made; kept = changed_keeps s (back_at k) (back_local s k) hall r (given hall k ys) made }

@@ -15,4 +15,4 @@ returns-in-None c =
     let hall = c.args.hall.now in
     let k = c.args.seat in
     let same = ap (λ xs. ones_of (drop 21 xs)) (loan_is hall k) in
-    looked_lent c.args.sheet.now k hall c.in-None.ensures (Held hall k) c.count-held.result (λ ws stand. c.count-held.ensures ∙ same)
+    looked_lent c.args.sheet.now k hall c.in-None.ensures (Held hall k) c.count_held.result (λ ws stand. c.count_held.ensures ∙ same)

@@ -14,8 +14,8 @@ use Rattle.seats.proofs.seat.add.Goals as goal
 left : (s : Sheet) (ws xs : List ℕ) (w : ℕ) (refusal : Refusal) (t : Told) → Seat s ws xs → Refuses s ws w refusal → t ≡ fault refusal (get_or xs 0 0) → (vs : List ℕ) × Said s ws w (Err t) vs × Seat s vs xs
 left s ws xs w refusal t h r e = (ws, refused refusal r refl (ap (λ (u : Told). Err u) (e ∙ ap (λ (n : ℕ). fault refusal n) (seat_count s ws xs h))), h)
 
-pub returns-then-word-word-count : goal.returns-then-word-word-count
-returns-then-word-word-count c = record {
+pub returns-then-word-word_count : goal.returns-then-word-word_count
+returns-then-word-word_count c = record {
   said = λ ws h. left c.args.sheet.now ws c.args.seat.now c.args.word UnlistedWord (told c.refused.result) h (unlisted (λ l. omega arith) refl) c.refused.ensures;
   untouched = λ f e. refl;
 }
@@ -43,8 +43,8 @@ returns-then-offers-word-eq0 c = record {
   untouched = λ f e. refl;
 }
 
-pub fill-column-requires : goal.fill-column-requires
-fill-column-requires c =
+pub fill_column-requires : goal.fill_column-requires
+fill_column-requires c =
     let xs = c.args.seat.now in
     let n = get_or xs 0 0 in
     let few = c.requires.1.few in
@@ -70,7 +70,7 @@ returns c = record {
       let offered = (c.offers.ensures ws h w).0 (bit_set c.offers.result w c.if-offers-word-eq0.false) in (
         ws ++ (w ∷ []),
         added (record { listed = listed; room = omega arith; offered = offered }) refl (ap (λ (i : ℕ). Ok i) long),
-        seat_added s ws xs h n w c.fill-column.new.table (sym is) room listed c.fill-column.ensures.exact c.fill-column.ensures.others,
+        seat_added s ws xs h n w c.fill_column.new.table (sym is) room listed c.fill_column.ensures.exact c.fill_column.ensures.others,
       );
   untouched = λ f e. let z : ◌≡◌ {A = ℕ} 0 1 = cc in absurd (omega arith);
 }

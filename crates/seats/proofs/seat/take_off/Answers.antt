@@ -22,6 +22,6 @@ returns c = record {
       let is = seat_count s ws xs h in
       let some : 0 < n = omega (arith, c.if-n-eq0.false) in
       let long : n - 1 ≡ length (take (n - 1) ws) = sym (length-take-le (n - 1) ws (omega arith)) in
-      (take (n - 1) ws, taken (omega arith) (ap (λ (i : ℕ). take (i - 1) ws) is) (ap (λ (i : ℕ). Ok i) long), seat_taken s ws xs h n c.clear-column.new.table (sym is) some c.clear-column.ensures);
+      (take (n - 1) ws, taken (omega arith) (ap (λ (i : ℕ). take (i - 1) ws) is) (ap (λ (i : ℕ). Ok i) long), seat_taken s ws xs h n c.clear_column.new.table (sym is) some c.clear_column.ensures);
   untouched = λ f e. let z : ◌≡◌ {A = ℕ} 0 1 = cc in absurd (omega arith);
 }

@@ -20,7 +20,7 @@ returns-in-default c before drafted within =
 
 pub invariant-of-draft : goal.invariant-of-draft
 invariant-of-draft c =
-    let d = c.word-number.new.draft in
+    let d = c.word_number.new.draft in
     let below : bit_or d.fillers (2 ^ c.in-Some.number) < 2 ^ d.word_count = with_below d.word_count d.fillers c.in-Some.number d.filled c.in-Some.ensures.counted in
     search rules
 
@@ -28,7 +28,7 @@ pub returns : goal.returns
 returns c before drafted =
     let s = c.args.word.now in
     let k = c.in-Some.number in
-    let e = c.word-number.new.draft in
+    let e = c.word_number.new.draft in
     let w = c.in-Some.ensures in
     let W = with_one (words_of before) s in
     let held = worded before (names_of before) (words_of before) c.args.draft.now drafted s k e w in
@@ -36,6 +36,6 @@ returns c before drafted =
     let apart : Apart W = apart_all (words_of before) (s ∷ []) (apart_words before) in
     let done = more before (filler s) e _ held refl refl refl refl (sym (add-zero e.rule_count)) (sym (add-zero e.alias_count))
     (held.rules ∙ sym (append-nil (productions before))) (held.aliases ∙ sym (append-nil (renamings before))) (held.places ∙ sym (add-zero (places_of before)))
-    (λ v l. ap (λ set. has set v) c.with-number-draft.ensures ∙ filler_set W (fillers_of before) s k at.0 at.1 e.fillers apart held.fillers v l)
+    (λ v l. ap (λ set. has set v) c.with_number-draft.ensures ∙ filler_set W (fillers_of before) s k at.0 at.1 e.fillers apart held.fillers v l)
     (filler_known W (fillers_of before) s k at.0 at.1) in
     (done, (c.if-word-gt15.false, room (before ++ (filler s ∷ [])) _ done), λ z. z)

@@ -15,22 +15,22 @@ loop-field-init c = (
   λ before N ss h e all. midway_start before N (words_of before) ss _ _ _ h e all refl,
 )
 
-pub symbol-number-requires : goal.symbol-number-requires
-symbol-number-requires c =
+pub symbol_number-requires : goal.symbol_number-requires
+symbol_number-requires c =
     (symbols_cut c.loop-field.rest.now c.in-Some.field.now c.in-Some.after.now c.in-Some.ensures c.loop-field.invariant.4).0
 
 pub loop-field-preserved : goal.loop-field-preserved
 loop-field-preserved c =
     let inv = c.loop-field.invariant in
     let d = c.loop-field.draft in
-    let e = c.symbol-number.new.draft in
+    let e = c.symbol_number.new.draft in
     let p = c.loop-field.rule in
-    let k = c.in-Some-symbol-number.symbol in
+    let k = c.in-Some-symbol_number.symbol in
     let bytes = c.loop-field.rest.now in
     let f = c.in-Some.field.now in
     let r = c.in-Some.after.now in
     let found = c.in-Some.ensures in
-    let enters = c.in-Some-symbol-number.ensures in
+    let enters = c.in-Some-symbol_number.ensures in
     let few : p.len < 8 = (let l = inv.0.1 in let n = c.if-rule-eq8.false in omega arith) in
     let room : p.len < length p.symbols = (let l = inv.1 in omega arith) in (
       formed_more d e f p k enters inv.0 room few,
@@ -55,12 +55,12 @@ returns-then-rule-eq8 c =
       read = λ before N ss h q all. ninth before N (words_of before) ss _ _ _ c.in-Some.field.now c.in-Some.after.now inv.1 c.if-rule-eq8.true c.in-Some.ensures (inv.5 before N ss h q all);
     }
 
-pub returns-in-default-symbol-number : goal.returns-in-default-symbol-number
-returns-in-default-symbol-number c =
+pub returns-in-default-symbol_number : goal.returns-in-default-symbol_number
+returns-in-default-symbol_number c =
     let inv = c.loop-field.invariant in
     record {
       formed = tt;
-      read = λ before N ss h q all. midway_barred before N (words_of before) ss _ _ _ c.in-Some.field.now c.in-Some.after.now c.in-Some.ensures c.in-default-symbol-number.ensures (inv.5 before N ss h q all);
+      read = λ before N ss h q all. midway_barred before N (words_of before) ss _ _ _ c.in-Some.field.now c.in-Some.after.now c.in-Some.ensures c.in-default-symbol_number.ensures (inv.5 before N ss h q all);
     }
 
 pub returns : goal.returns

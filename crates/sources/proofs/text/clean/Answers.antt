@@ -7,12 +7,12 @@ use Rattle.sources.proofs.text.clean.Goals as goal
 pub loop-n-preserved : goal.loop-n-preserved
 loop-n-preserved c =
     let m = c.args.run.now in
-    scan_more allowed m c.loop-n.n (prefix_len allowed m) c.loop-n.invariant c.loop-n-test.true (sym c.if-is-allowed.ensures)
+    scan_more allowed m c.loop-n.n (prefix_len allowed m) c.loop-n.invariant c.loop-n-test.true (sym c.if-is_allowed.ensures)
 
-pub returns-else-is-allowed : goal.returns-else-is-allowed
-returns-else-is-allowed c =
+pub returns-else-is_allowed : goal.returns-else-is_allowed
+returns-else-is_allowed c =
     let m = c.args.run.now in
-    scan_stops allowed m c.loop-n.n (prefix_len allowed m) c.loop-n.invariant c.loop-n-test.true (sym c.if-is-allowed.ensures)
+    scan_stops allowed m c.loop-n.n (prefix_len allowed m) c.loop-n.invariant c.loop-n-test.true (sym c.if-is_allowed.ensures)
 
 pub returns-after-loop-n : goal.returns-after-loop-n
 returns-after-loop-n c =

@@ -32,8 +32,8 @@ returns-else-k-rule c =
     let p = c.args.rule.now in
     let room : p.len ≤ length p.symbols = search rules in
     let within : c.args.k < p.len = omega (arith, c.requires.1) in
-    let sum = c.add-symbol.ensures in
+    let sum = c.add_symbol.ensures in
     record {
       whole = whole d;
-      grown = grown_before p c.args.k c.args.place c.args.nullable c.args.self.now c.if-k-eq0.self c.add-symbol.new.self within room (opened d) sum.names sum.words sum.nullable sum.first sum.last;
+      grown = grown_before p c.args.k c.args.place c.args.nullable c.args.self.now c.if-k-eq0.self c.add_symbol.new.self within room (opened d) sum.names sum.words sum.nullable sum.first sum.last;
     }

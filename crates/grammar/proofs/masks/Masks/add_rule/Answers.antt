@@ -10,9 +10,9 @@ loop-k-init c = (
 
 pub loop-k-preserved : goal.loop-k-preserved
 loop-k-preserved c =
-    let whole = c.add-place.ensures.whole in (
+    let whole = c.add_place.ensures.whole in (
       λ h. whole,
-      λ before l h. upto_more c.args.rule.now before c.args.nullable c.args.start c.loop-k.k c.loop-k.self c.add-place.new.self l (omega arith) (c.loop-k.invariant.1 before l h) c.add-place.ensures.grown,
+      λ before l h. upto_more c.args.rule.now before c.args.nullable c.args.start c.loop-k.k c.loop-k.self c.add_place.new.self l (omega arith) (c.loop-k.invariant.1 before l h) c.add_place.ensures.grown,
     )
 
 pub returns : goal.returns

@@ -6,8 +6,8 @@ use Rattle.grammar.proofs.masks.Masks.of.Goals as goal
 pub loop-rule-init : goal.loop-rule-init
 loop-rule-init c = (refl, refl, c.none-masks.ensures c.args.nullable)
 
-pub add-rule-requires : goal.add-rule-requires
-add-rule-requires c = (
+pub add_rule-requires : goal.add_rule-requires
+add_rule-requires c = (
   c.requires.0 c.loop-rule.rule-index c.loop-rule-test.true,
   room_rule c.args.rules.now c.loop-rule.rule-index c.loop-rule-test.true c.loop-rule.start c.loop-rule.invariant.0 c.requires.1,
 )
@@ -24,8 +24,8 @@ loop-rule-preserved c =
     let listed = c.loop-rule-test.true in
     let inv = c.loop-rule.invariant in (
       places_rule rules i listed c.loop-rule.start inv.0,
-      length_rule rules i listed c.loop-rule.start inv.1 c.add-rule.ensures.whole,
-      held_rule rules i listed c.args.nullable c.add-rule.new.self (c.add-rule.ensures.added (dotted (take i rules)) inv.1 inv.2),
+      length_rule rules i listed c.loop-rule.start inv.1 c.add_rule.ensures.whole,
+      held_rule rules i listed c.args.nullable c.add_rule.new.self (c.add_rule.ensures.added (dotted (take i rules)) inv.1 inv.2),
     )
 
 pub returns : goal.returns

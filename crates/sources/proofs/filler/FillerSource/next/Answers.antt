@@ -18,8 +18,8 @@ returns-in-err-heard g c =
     let t = filler_faults l.fillers (means l.below) (means c.next.new.self) (without s.fillers (means s.below)) c.loop-heard.invariant (told f) (record { answer = e.answer; left = e.left }) in
     record { answer = handed_on c.from-residual.result f c.from-residual.ensures.1 ∙ t.answer; left = t.left }
 
-pub returns-then-not-is-filler : goal.returns-then-not-is-filler
-returns-then-not-is-filler g c =
+pub returns-then-not-is_filler : goal.returns-then-not-is_filler
+returns-then-not-is_filler g c =
     let means = g.S.Source.meaning in
     let l = c.loop-heard.self in
     let s = c.args.self.now in
@@ -27,7 +27,7 @@ returns-then-not-is-filler g c =
     let e = c.in-ok-heard.ensures in
     let k = means l.below in
     let k' = means c.next.new.self in
-    let t = filler_keeps l.fillers k k' (without s.fillers (means s.below)) c.loop-heard.invariant h (called c.in-ok-heard.field-0 (Some h) k k' c.in-Some.is e.answer e.left) c.if-not-is-filler.ensures in
+    let t = filler_keeps l.fillers k k' (without s.fillers (means s.below)) c.loop-heard.invariant h (called c.in-ok-heard.field-0 (Some h) k k' c.in-Some.is e.answer e.left) c.if-not-is_filler.ensures in
     record { answer = t.answer; left = t.left }
 
 pub loop-heard-preserved : goal.loop-heard-preserved
@@ -39,7 +39,7 @@ loop-heard-preserved g c =
     let e = c.in-ok-heard.ensures in
     let k = means l.below in
     let k' = means c.next.new.self in
-    filler_skips l.fillers k k' (without s.fillers (means s.below)) c.loop-heard.invariant h (called c.in-ok-heard.field-0 (Some h) k k' c.in-Some.is e.answer e.left) c.if-not-is-filler.ensures
+    filler_skips l.fillers k k' (without s.fillers (means s.below)) c.loop-heard.invariant h (called c.in-ok-heard.field-0 (Some h) k k' c.in-Some.is e.answer e.left) c.if-not-is_filler.ensures
 
 pub returns : goal.returns
 returns g c =

@@ -10,19 +10,19 @@ use Rattle.sources.proofs.text.TextSource.next.Goals as goal
 pub returns-then-start-message : goal.returns-then-start-message
 returns-then-start-message c =
     let s = c.args.self.now in
-    let t = text_ends s.message.now s.at c.past-spaces-start.result _ c.past-spaces-start.ensures refl (words_in s.sheet.now) c.if-start-message.true in
+    let t = text_ends s.message.now s.at c.past_spaces-start.result _ c.past_spaces-start.ensures refl (words_in s.sheet.now) c.if-start-message.true in
     record { answer = t.answer; left = t.left }
 
-pub slice-bounds-read-word-end : goal.slice-bounds-read-word-end
-slice-bounds-read-word-end c =
+pub slice-bounds-read_word-end : goal.slice-bounds-read_word-end
+slice-bounds-read_word-end c =
     let s = c.args.self.now in
-    over_within s.message.now s.at c.past-spaces-start.result c.past-run-end.result c.past-spaces-start.ensures c.past-run-end.ensures c.if-start-message.false
+    over_within s.message.now s.at c.past_spaces-start.result c.past_run-end.result c.past_spaces-start.ensures c.past_run-end.ensures c.if-start-message.false
 
 pub returns-in-err-word : goal.returns-in-err-word
 returns-in-err-word c =
     let s = c.args.self.now in
     let f = c.in-err-word.field-0.0 in
-    let t = text_faults s.message.now s.at c.past-spaces-start.result c.past-run-end.result c.past-spaces-start.ensures c.past-run-end.ensures (words_in s.sheet.now) c.if-start-message.false (told f) (c.in-err-word.ensures ∙ ap (λ ws. verdict (map text ws) (record { place = c.past-spaces-start.result; bytes = take (c.past-run-end.result - c.past-spaces-start.result) (drop c.past-spaces-start.result s.message.now) })) c.words.ensures) in
+    let t = text_faults s.message.now s.at c.past_spaces-start.result c.past_run-end.result c.past_spaces-start.ensures c.past_run-end.ensures (words_in s.sheet.now) c.if-start-message.false (told f) (c.in-err-word.ensures ∙ ap (λ ws. verdict (map text ws) (record { place = c.past_spaces-start.result; bytes = take (c.past_run-end.result - c.past_spaces-start.result) (drop c.past_spaces-start.result s.message.now) })) c.words.ensures) in
     record {
       answer = handed_on c.from-residual.result f c.from-residual.ensures.1 ∙ t.answer;
       left = t.left;
@@ -31,16 +31,16 @@ returns-in-err-word c =
 pub returns : goal.returns
 returns c =
     let s = c.args.self.now in
-    let t = text_says s.message.now s.at c.past-spaces-start.result c.past-run-end.result c.past-spaces-start.ensures c.past-run-end.ensures (words_in s.sheet.now) c.if-start-message.false c.in-ok-word.word (c.in-ok-word.ensures ∙ ap (λ ws. verdict (map text ws) (record { place = c.past-spaces-start.result; bytes = take (c.past-run-end.result - c.past-spaces-start.result) (drop c.past-spaces-start.result s.message.now) })) c.words.ensures) in
+    let t = text_says s.message.now s.at c.past_spaces-start.result c.past_run-end.result c.past_spaces-start.ensures c.past_run-end.ensures (words_in s.sheet.now) c.if-start-message.false c.in-ok-word.word (c.in-ok-word.ensures ∙ ap (λ ws. verdict (map text ws) (record { place = c.past_spaces-start.result; bytes = take (c.past_run-end.result - c.past_spaces-start.result) (drop c.past_spaces-start.result s.message.now) })) c.words.ensures) in
     record { answer = t.answer; left = t.left }
 
-pub read-word-requires : goal.read-word-requires
-read-word-requires c =
+pub read_word-requires : goal.read_word-requires
+read_word-requires c =
     let s = c.args.self.now.sheet.now in
     let few = ap length c.words.ensures in
     let cut = length-take s.word_count s.words in
     let m = c.args.self.now.message.now in
-    let part = length-take (c.past-run-end.result - c.past-spaces-start.result) (drop c.past-spaces-start.result m) in
-    let rest = length-drop c.past-spaces-start.result m in
+    let part = length-take (c.past_run-end.result - c.past_spaces-start.result) (drop c.past_spaces-start.result m) in
+    let rest = length-drop c.past_spaces-start.result m in
     let long : length m < 2 ^ 64 = search rules in
     (omega (arith, s.counts.3), omega (arith, c.if-start-message.false))
