@@ -9,8 +9,8 @@ use Rattle.reader.proofs.performing.perform.Goals as goal
 pub loop-i-init : goal.loop-i-init
 loop-i-init g c =
     let s = c.args.sheet.now in
-    let e = c.in-ok-open.ensures in
-    let fits = opened_fits s c.args.hall.now c.in-ok-open.field-0 c.open.new.hall e.opened in
+    let e = c.in_ok-open.ensures in
+    let fits = opened_fits s c.args.hall.now c.in_ok-open.field-0 c.open.new.hall e.opened in
     so_far_none g.T.Source.meaning s c.args.turns.now c.open.new.hall (e.first fits)
 
 pub loop-i-preserved : goal.loop-i-preserved
@@ -18,13 +18,13 @@ loop-i-preserved g c =
     let l = c.loop-i in
     so_far_more g.T.Source.meaning c.args.sheet.now c.args.turns.now l.i l.turns l.hall l.invariant c.index-turns-i.result c.take_turn.new.turn c.take_turn.new.hall (omega arith) c.take_turn.ensures
 
-pub returns-in-err-open : goal.returns-in-err-open
-returns-in-err-open g c =
-    let f = c.in-err-open.field-0.0 in
-    let r = c.from-residual.result in
+pub returns-in_err-open : goal.returns-in_err-open
+returns-in_err-open g c =
+    let f = c.in_err-open.field-0.0 in
+    let r = c.from_residual.result in
     performed_not g.T.Source.meaning c.args.sheet.now g.C.Scale.measure c.args.seat c.args.hall.now c.args.turns.now
     (record { list = c.args.list.now; prices = c.args.prices.now; numbers = c.args.numbers.now }) (telling r) c.open.new.hall (told f)
-    (handed_on r f c.from-residual.ensures.1) c.in-err-open.ensures.opened
+    (handed_on r f c.from_residual.ensures.1) c.in_err-open.ensures.opened
 
 pub returns : goal.returns
 returns g c =
@@ -33,7 +33,7 @@ returns g c =
     let turns = c.args.turns.now in
     let l = c.loop-i in
     let last = c.read.new in
-    let fits = opened_fits s c.args.hall.now c.in-ok-open.field-0 c.open.new.hall c.in-ok-open.ensures.opened in
+    let fits = opened_fits s c.args.hall.now c.in_ok-open.field-0 c.open.new.hall c.in_ok-open.ensures.opened in
     let kept = all_kept means s turns l.i l.turns l.hall l.invariant (omega arith) in
     record {
       no_hall = λ ne. absurd (ne fits);

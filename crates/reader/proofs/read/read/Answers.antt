@@ -13,7 +13,7 @@ read_seat-requires g c =
     let s = c.args.sheet.now in
     let k = c.args.seat in
     let hall = c.args.hall.now in
-    let free = c.in-default.ensures in
+    let free = c.in_default.ensures in
     let own = c.numbers_at-own in
     record {
       long = own_long s k hall free own.result.now own.ensures;
@@ -25,7 +25,7 @@ pub returns : goal.returns
 returns g c =
     let own = c.numbers_at-own in
     let last = c.read_seat.new in
-    read_lent c.args.sheet.now c.args.seat c.args.hall.now c.in-default.ensures own.result.now own.ensures g.C.Scale.measure
+    read_lent c.args.sheet.now c.args.seat c.args.hall.now c.in_default.ensures own.result.now own.ensures g.C.Scale.measure
     (record { list = c.args.list.now; prices = c.args.prices.now; numbers = c.args.numbers.now })
     (c.has_room.ensures.0 c.if-not-has_room.false) (telling c.answer.result) (settled c.read_seat.result)
     (record { list = last.list; prices = last.prices; numbers = last.numbers }) c.answer.ensures c.read_seat.ensures

@@ -6,10 +6,10 @@ use Rattle.readings.proofs.fill.price_next.Goals as goal
 apart : true ≡ false → ⊥
 apart e = let z : ◌≡◌ {A = ℕ} 0 1 = cc in omega arith
 
-pub returns-in-default : goal.returns-in-default
-returns-in-default g c =
+pub returns-in_default : goal.returns-in_default
+returns-in_default g c =
     record {
-      last = λ _. filling_last c.args.rules.now g.S.Scale.measure g.met.S.Scale.lawful _ _ _ _ c.args.cell.k c.cheapest_offer-found.result.rule c.cheapest_offer-found.result.price c.in-default.is
+      last = λ _. filling_last c.args.rules.now g.S.Scale.measure g.met.S.Scale.lawful _ _ _ _ c.args.cell.k c.cheapest_offer-found.result.rule c.cheapest_offer-found.result.price c.in_default.is
           (foremost_best c.args.rules.now g.S.Scale.measure g.met.S.Scale.lawful _ _ _ _ _ _ _ _ c.requires.gathered c.cheapest_offer-found.ensures) c.requires.filling;
       filling = λ e. absurd (apart (sym e));
       gathered = λ e. absurd (apart (sym e));
@@ -18,8 +18,8 @@ returns-in-default g c =
 pub bounds-rules-found : goal.bounds-rules-found
 bounds-rules-found g c = (c.cheapest_offer-found.ensures.stands c.in-Some.p c.in-Some.is).0
 
-pub offset-bounds-rules-found : goal.offset-bounds-rules-found
-offset-bounds-rules-found g c = let h = (c.cheapest_offer-found.ensures.stands c.in-Some.p c.in-Some.is).0 in omega (arith, h)
+pub offset_bounds-rules-found : goal.offset_bounds-rules-found
+offset_bounds-rules-found g c = let h = (c.cheapest_offer-found.ensures.stands c.in-Some.p c.in-Some.is).0 in omega (arith, h)
 
 pub put_price-requires : goal.put_price-requires
 put_price-requires g c =

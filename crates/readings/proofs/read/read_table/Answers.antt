@@ -3,8 +3,8 @@ use Rattle.readings.proofs.Turns.{longer_one, longer_then, taken_one, length_rig
 use Rattle.readings.proofs.Readings.{unread, start_listed, stage_start, reads_single, reads_cheapest, stage_as, reads_as}
 use Rattle.readings.proofs.read.read_table.Goals as goal
 
-pub returns-in-default : goal.returns-in-default
-returns-in-default g c = unread c.args.rules.now g.S.Scale.measure g.met.S.Scale.lawful c.args.ground.words.now _ c.requires.filled c.args.start _ (sym c.price_of.ensures ∙ c.in-default.is)
+pub returns-in_default : goal.returns-in_default
+returns-in_default g c = unread c.args.rules.now g.S.Scale.measure g.met.S.Scale.lawful c.args.ground.words.now _ c.requires.filled c.args.start _ (sym c.price_of.ensures ∙ c.in_default.is)
 
 pub returns-then-n-eq0 : goal.returns-then-n-eq0
 returns-then-n-eq0 g c =

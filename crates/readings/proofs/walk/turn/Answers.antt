@@ -12,8 +12,8 @@ bounds-stack-top g c =
     let n = stage_height (c.args.at.height - 1) c.args.at.height e c.requires.stage in
     omega arith
 
-pub offset-bounds-stack-top : goal.offset-bounds-stack-top
-offset-bounds-stack-top g c =
+pub offset_bounds-stack-top : goal.offset_bounds-stack-top
+offset_bounds-stack-top g c =
     let e : c.args.at.height ≡ suc (c.args.at.height - 1) = omega arith in
     let n = stage_height (c.args.at.height - 1) c.args.at.height e c.requires.stage in
     omega arith
@@ -115,8 +115,8 @@ bounds-list-at-in-Name g c =
     let f = some_room g.met.S.Scale.lawful c.requires.recorded e c.unpack-i.ensures c.requires.stage c.rank_of-k.ensures c.rule_of-r.ensures c.find_end-to.result (omega arith) (omega arith) (omega (arith, p.1)) c.in-Name.b c.in-Name.ensures.split s (omega (arith, c.if-to-m.false)) (length_right _ _ z) in
     omega (arith, length-take c.args.at.written c.args.list.now)
 
-pub overflow-add-at-in-Name : goal.overflow-add-at-in-Name
-overflow-add-at-in-Name g c =
+pub overflow_add-at-in-Name : goal.overflow_add-at-in-Name
+overflow_add-at-in-Name g c =
     let e : c.args.at.height ≡ suc (c.args.at.height - 1) = omega arith in
     let n = stage_height (c.args.at.height - 1) c.args.at.height e c.requires.stage in
     omega arith

@@ -10,7 +10,7 @@ loop-message-smaller c = taken_less c.loop-message.rest.now c.in-Some.message.no
 
 pub loop-message-preserved : goal.loop-message-preserved
 loop-message-preserved c =
-    let got = c.in-ok-reply.ensures in
+    let got = c.in_ok-reply.ensures in
     let before = vec_items c.args.out.now in
     let written = vec_items c.loop-message.out in
     let after = vec_items c.reply.new.out in
@@ -18,4 +18,4 @@ loop-message-preserved c =
 
 pub returns : goal.returns
 returns c =
-    onward_done c.args.sheet.now c.args.messages.now (vec_items c.args.out.now) c.loop-message.rest.now (vec_items c.loop-message.out) c.in-default.ensures c.loop-message.invariant
+    onward_done c.args.sheet.now c.args.messages.now (vec_items c.args.out.now) c.loop-message.rest.now (vec_items c.loop-message.out) c.in_default.ensures c.loop-message.invariant

@@ -15,17 +15,17 @@ add-requires g c =
     let stand = l.invariant.stand in
     (stand.size, seat_whole c.args.sheet.now l.invariant.words l.seat stand)
 
-pub returns-in-err-heard : goal.returns-in-err-heard
-returns-in-err-heard g c =
+pub returns-in_err-heard : goal.returns-in_err-heard
+returns-in_err-heard g c =
     let means = g.S.Source.meaning in
     let s = c.args.sheet.now in
     let l = c.loop-heard in
     let m = means c.args.source.now in
     let k' = means c.next.new.self in
-    let f = c.in-err-heard.field-0.0 in
-    let e = c.in-err-heard.ensures in
-    let r = c.from-residual.result in
-    listening_faults s m (means l.source) l.n l.seat l.invariant k' (told f) (telling r) (handed_on r f c.from-residual.ensures.1)
+    let f = c.in_err-heard.field-0.0 in
+    let e = c.in_err-heard.ensures in
+    let r = c.from_residual.result in
+    listening_faults s m (means l.source) l.n l.seat l.invariant k' (told f) (telling r) (handed_on r f c.from_residual.ensures.1)
     (record { answer = e.answer; left = e.left })
 
 pub returns-in-Err : goal.returns-in-Err
@@ -37,8 +37,8 @@ returns-in-Err g c =
     let k = means l.source in
     let k' = means c.next.new.self in
     let h = c.in-Some.heard in
-    let e = c.in-ok-heard.ensures in
-    let took = called c.in-ok-heard.field-0 (Some h) k k' c.in-Some.is e.answer e.left in
+    let e = c.in_ok-heard.ensures in
+    let took = called c.in_ok-heard.field-0 (Some h) k k' c.in-Some.is e.answer e.left in
     let ys = c.add.new.seat in
     let y = c.in-Err.ensures.said l.invariant.words l.invariant.stand in
     listening_stops s m k l.n l.seat l.invariant k' h took ys y.0 y.2 (told c.in-Err.fault) (told c.moved.result) c.moved.ensures y.1
@@ -52,8 +52,8 @@ loop-heard-preserved g c =
     let k = means l.source in
     let k' = means c.next.new.self in
     let h = c.in-Some.heard in
-    let e = c.in-ok-heard.ensures in
-    let took = called c.in-ok-heard.field-0 (Some h) k k' c.in-Some.is e.answer e.left in
+    let e = c.in_ok-heard.ensures in
+    let took = called c.in_ok-heard.field-0 (Some h) k k' c.in-Some.is e.answer e.left in
     let y = c.in-Ok.ensures.said l.invariant.words l.invariant.stand in
     listening_more s m k l.n l.seat l.invariant k' h took c.add.new.seat y.0 y.2 c.in-Ok.count y.1
 
@@ -63,8 +63,8 @@ loop-heard-smaller g c =
     let k = means c.loop-heard.source in
     let k' = means c.next.new.self in
     let h = c.in-Some.heard in
-    let e = c.in-ok-heard.ensures in
-    fewer k k' h (called c.in-ok-heard.field-0 (Some h) k k' c.in-Some.is e.answer e.left)
+    let e = c.in_ok-heard.ensures in
+    fewer k k' h (called c.in_ok-heard.field-0 (Some h) k k' c.in-Some.is e.answer e.left)
 
 pub returns : goal.returns
 returns g c =
@@ -72,6 +72,6 @@ returns g c =
     let l = c.loop-heard in
     let k = means l.source in
     let k' = means c.next.new.self in
-    let e = c.in-ok-heard.ensures in
-    let took = called c.in-ok-heard.field-0 None k k' c.in-default.is e.answer e.left in
+    let e = c.in_ok-heard.ensures in
+    let took = called c.in_ok-heard.field-0 None k k' c.in_default.is e.answer e.left in
     listening_ends c.args.sheet.now (means c.args.source.now) k l.n l.seat l.invariant k' took

@@ -28,8 +28,8 @@ returns-then-n-eq20 c = record {
   untouched = λ f e. refl;
 }
 
-pub overflow-shr-offers : goal.overflow-shr-offers
-overflow-shr-offers c = listed_low c.args.sheet.now c.args.word (omega arith)
+pub overflow_shr-offers : goal.overflow_shr-offers
+overflow_shr-offers c = listed_low c.args.sheet.now c.args.word (omega arith)
 
 pub returns-then-offers-word-eq0 : goal.returns-then-offers-word-eq0
 returns-then-offers-word-eq0 c = record {

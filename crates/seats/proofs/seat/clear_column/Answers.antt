@@ -4,8 +4,8 @@ use Rattle.std.proofs.lemmas.List.Edits.{length-between}
 use Rattle.seats.proofs.Clearing.{column_cleared}
 use Rattle.seats.proofs.seat.clear_column.Goals as goal
 
-pub slice-bounds-fill-end : goal.slice-bounds-fill-end
-slice-bounds-fill-end c = let most = mul-le c.args.j (c.args.j + 1) 20 21 c.requires.low (omega arith) in search rules
+pub slice_bounds-fill-end : goal.slice_bounds-fill-end
+slice_bounds-fill-end c = let most = mul-le c.args.j (c.args.j + 1) 20 21 c.requires.low (omega arith) in search rules
 
 pub returns : goal.returns
 returns c =

@@ -8,8 +8,8 @@ use Rattle.seats.proofs.seat.count_held.Goals as goal
 pub loop-number-init : goal.loop-number-init
 loop-number-init c = let e = ap ones_of (lent_is c.args.seat.now c.requires) in (omega arith, omega arith)
 
-pub overflow-add-held : goal.overflow-add-held
-overflow-add-held c =
+pub overflow_add-held : goal.overflow_add-held
+overflow_add-held c =
     let x = get_or (take 924 (drop 21 c.args.seat.now)) c.loop-number.number-index 0 in
     let low : x < 2 ^ 64 = omega arith in
     omega (arith, ones-le 64 x low)

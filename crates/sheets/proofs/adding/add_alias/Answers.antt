@@ -6,18 +6,18 @@ use Rattle.sheets.proofs.Held.{worded, no_word}
 use Rattle.sheets.proofs.AliasLines.{alias_line, full}
 use Rattle.sheets.proofs.adding.add_alias.Goals as goal
 
-pub returns-in-default : goal.returns-in-default
-returns-in-default c before drafted within =
+pub returns-in_default : goal.returns-in_default
+returns-in_default c before drafted within =
     let s = c.args.said.now in
     let m = c.args.meant.now in
-    no_word before _ _ _ drafted s (m ∷ []) c.in-default.ensures (words_fit before (alias s m) within.1)
+    no_word before _ _ _ drafted s (m ∷ []) c.in_default.ensures (words_fit before (alias s m) within.1)
 
-pub returns-in-default-word_number : goal.returns-in-default-word_number
-returns-in-default-word_number c before drafted within =
+pub returns-in_default-word_number : goal.returns-in_default-word_number
+returns-in_default-word_number c before drafted within =
     let s = c.args.said.now in
     let m = c.args.meant.now in
     let held = worded before _ _ _ drafted s c.in-Some.from c.word_number.new.draft c.in-Some.ensures in
-    no_word before _ _ _ held m [] c.in-default-word_number.ensures (words_fit before (alias s m) within.1)
+    no_word before _ _ _ held m [] c.in_default-word_number.ensures (words_fit before (alias s m) within.1)
 
 pub returns-then-not-push_alias : goal.returns-then-not-push_alias
 returns-then-not-push_alias c before drafted within =

@@ -13,13 +13,13 @@ use Rattle.sheets.proofs.Held.{worded, word_at, no_word, room, more}
 use Rattle.sheets.proofs.FillerLines.{filler_known, filler_set}
 use Rattle.sheets.proofs.adding.add_filler.Goals as goal
 
-pub returns-in-default : goal.returns-in-default
-returns-in-default c before drafted within =
+pub returns-in_default : goal.returns-in_default
+returns-in_default c before drafted within =
     let s = c.args.word.now in
-    no_word before _ _ _ drafted s [] c.in-default.ensures (words_fit before (filler s) within.1)
+    no_word before _ _ _ drafted s [] c.in_default.ensures (words_fit before (filler s) within.1)
 
-pub invariant-of-draft : goal.invariant-of-draft
-invariant-of-draft c =
+pub invariant_of-draft : goal.invariant_of-draft
+invariant_of-draft c =
     let d = c.word_number.new.draft in
     let below : bit_or d.fillers (2 ^ c.in-Some.number) < 2 ^ d.word_count = with_below d.word_count d.fillers c.in-Some.number d.filled c.in-Some.ensures.counted in
     search rules

@@ -7,17 +7,17 @@ use Rattle.sheets.proofs.Held.{no_name, room}
 use Rattle.sheets.proofs.RuleLines.{symbols_fit, left_held, rule_more, overfull}
 use Rattle.sheets.proofs.adding.add_rule.Goals as goal
 
-pub returns-in-default-name_number : goal.returns-in-default-name_number
-returns-in-default-name_number c before ss drafted is well within =
+pub returns-in_default-name_number : goal.returns-in_default-name_number
+returns-in_default-name_number c before ss drafted is well within =
     let a = c.args.left.now in
-    no_name before _ _ _ drafted a (names_among ss) c.in-default-name_number.ensures (names_fit before (rule c.args.weight.now a ss) within.1)
+    no_name before _ _ _ drafted a (names_among ss) c.in_default-name_number.ensures (names_fit before (rule c.args.weight.now a ss) within.1)
 
-pub returns-in-default-read_rule : goal.returns-in-default-read_rule
-returns-in-default-read_rule c before ss drafted is well within =
+pub returns-in_default-read_rule : goal.returns-in_default-read_rule
+returns-in_default-read_rule c before ss drafted is well within =
     let a = c.args.left.now in
     let e = c.name_number.new.draft in
     let held = left_held before a c.in-Some-name_number.name c.args.draft.now e drafted c.in-Some-name_number.ensures in
-    c.in-default-read_rule.ensures.read before (with_one (names_of before) a) ss held is well.2 (symbols_fit before c.args.weight.now a ss within.0 within.1)
+    c.in_default-read_rule.ensures.read before (with_one (names_of before) a) ss held is well.2 (symbols_fit before c.args.weight.now a ss within.0 within.1)
 
 pub returns-then-not-push_rule : goal.returns-then-not-push_rule
 returns-then-not-push_rule c before ss drafted is well within =

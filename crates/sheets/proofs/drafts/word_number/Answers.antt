@@ -5,17 +5,17 @@ use Rattle.grammar.proofs.Fronts.{rights_among_more, aliased_among_more}
 use Rattle.sheets.proofs.Interning.{lettered_with, brief_with, apart_with}
 use Rattle.sheets.proofs.drafts.word_number.Goals as goal
 
-pub invariant-of-draft : goal.invariant-of-draft
-invariant-of-draft c =
+pub invariant_of-draft : goal.invariant_of-draft
+invariant_of-draft c =
     let d = c.args.draft.now in
-    let same = sym c.in-default.ensures.same in
+    let same = sym c.in_default.ensures.same in
     let lettered = subst (Lettered word_spelled d.word_count) same d.lettered_words in
     let brief = subst (Brief d.word_count) same d.brief_words in
     let apart = subst (λ xs. ∥ Apart (texts d.word_count xs) ∥₁) same d.apart_words in
     (d.counts, (d.lefts, (d.short, (d.rights, (d.lettered_names, (lettered, (d.brief_names, (brief, (d.apart_names, (apart, (d.aliased, (d.placed, (d.filled, tt)))))))))))))
 
-pub invariant-of-draft-2 : goal.invariant-of-draft-2
-invariant-of-draft-2 c =
+pub invariant_of-draft-2 : goal.invariant_of-draft-2
+invariant_of-draft-2 c =
     let d = c.args.draft.now in
     let i = c.in-Some.ensures in
     let room : c.in-Some.count ≤ 64 = search rules in

@@ -12,5 +12,5 @@ no_kind bytes first rest cut none (rule w a ss) h = none key.Rule (line_parts by
 no_kind bytes first rest cut none (alias s m) h = none key.Alias (line_parts bytes first rest (alias s m) cut h).0
 no_kind bytes first rest cut none (filler w) h = none key.Filler (line_parts bytes first rest (filler w) cut h).0
 
-pub returns-in-default : goal.returns-in-default
-returns-in-default c = no_kind _ _ _ c.cut.ensures c.in-default.ensures
+pub returns-in_default : goal.returns-in_default
+returns-in_default c = no_kind _ _ _ c.cut.ensures c.in_default.ensures

@@ -30,14 +30,14 @@ loop-rest-preserved c =
       (omega (arith, inv.6)),
     )
 
-pub returns-in-default : goal.returns-in-default
-returns-in-default c =
+pub returns-in_default : goal.returns-in_default
+returns-in_default c =
     let inv = c.loop-rest.invariant in
     let there : 0 < length c.loop-rest.rest.now = search rules in (
       LineShape,
       c.loop-rest.number + 1,
       c.refused.ensures,
-      (c.requires, (inv.0, c.loop-rest.rest.now, inv.1, inv.2, inv.3, (there, c.in-default.ensures.line), (omega (arith, inv.5)))),
+      (c.requires, (inv.0, c.loop-rest.rest.now, inv.1, inv.2, inv.3, (there, c.in_default.ensures.line), (omega (arith, inv.5)))),
     )
 
 pub returns-in-Err : goal.returns-in-Err

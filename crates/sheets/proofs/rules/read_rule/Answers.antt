@@ -55,12 +55,12 @@ returns-then-rule-eq8 c =
       read = λ before N ss h q all. ninth before N (words_of before) ss _ _ _ c.in-Some.field.now c.in-Some.after.now inv.1 c.if-rule-eq8.true c.in-Some.ensures (inv.5 before N ss h q all);
     }
 
-pub returns-in-default-symbol_number : goal.returns-in-default-symbol_number
-returns-in-default-symbol_number c =
+pub returns-in_default-symbol_number : goal.returns-in_default-symbol_number
+returns-in_default-symbol_number c =
     let inv = c.loop-field.invariant in
     record {
       formed = tt;
-      read = λ before N ss h q all. midway_barred before N (words_of before) ss _ _ _ c.in-Some.field.now c.in-Some.after.now c.in-Some.ensures c.in-default-symbol_number.ensures (inv.5 before N ss h q all);
+      read = λ before N ss h q all. midway_barred before N (words_of before) ss _ _ _ c.in-Some.field.now c.in-Some.after.now c.in-Some.ensures c.in_default-symbol_number.ensures (inv.5 before N ss h q all);
     }
 
 pub returns : goal.returns
@@ -68,5 +68,5 @@ returns c =
     let inv = c.loop-field.invariant in
     record {
       formed = (inv.0, inv.2, inv.3);
-      read = λ before N ss h q all. righted before N (words_of before) ss _ _ _ inv.1 inv.0.1 c.in-default.ensures (inv.5 before N ss h q all);
+      read = λ before N ss h q all. righted before N (words_of before) ss _ _ _ inv.1 inv.0.1 c.in_default.ensures (inv.5 before N ss h q all);
     }

@@ -7,11 +7,11 @@ position-requires c = short_front c.args.spellings.now c.args.count c.args.bytes
 
 pub returns-then-at-spellings : goal.returns-then-at-spellings
 returns-then-at-spellings c =
-    crowded c.args.spellings.now c.args.count c.args.bytes.now c.requires.0 c.requires.2 (omega arith) c.in-default.ensures
+    crowded c.args.spellings.now c.args.count c.args.bytes.now c.requires.0 c.requires.2 (omega arith) c.in_default.ensures
 
-pub returns-in-default : goal.returns-in-default
-returns-in-default c =
-    interned_new c.args.spellings.now c.args.count c.args.bytes.now c.requires.0 c.requires.2 c.spell.result (omega arith) c.spell.ensures.text (omega (arith, c.spell.ensures.len, c.requires.3)) c.in-default.ensures
+pub returns-in_default : goal.returns-in_default
+returns-in_default c =
+    interned_new c.args.spellings.now c.args.count c.args.bytes.now c.requires.0 c.requires.2 c.spell.result (omega arith) c.spell.ensures.text (omega (arith, c.spell.ensures.len, c.requires.3)) c.in_default.ensures
 
 pub returns : goal.returns
 returns c =

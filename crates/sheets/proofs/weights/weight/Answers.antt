@@ -5,8 +5,8 @@ use Rattle.sheets.specs.Limits.{number, number_after}
 use Rattle.sheets.proofs.Cuts.{every_at, digit_least, number_after_le, number_more}
 use Rattle.sheets.proofs.weights.weight.Goals as goal
 
-pub overflow-sub-n : goal.overflow-sub-n
-overflow-sub-n c = digit_least _ (every_at digit c.args.digits.now c.loop-c.c-index c.requires c.loop-c-test.true)
+pub overflow_sub-n : goal.overflow_sub-n
+overflow_sub-n c = digit_least _ (every_at digit c.args.digits.now c.loop-c.c-index c.requires c.loop-c-test.true)
 
 pub returns-then-n-gt65535 : goal.returns-then-n-gt65535
 returns-then-n-gt65535 c =

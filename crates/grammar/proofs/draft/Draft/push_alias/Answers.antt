@@ -5,8 +5,8 @@ use Rattle.grammar.specs.Limits.{no_alias, Aliased}
 use Rattle.grammar.proofs.Pushed.{each_more}
 use Rattle.grammar.proofs.draft.Draft.push_alias.Goals as goal
 
-pub invariant-of-self : goal.invariant-of-self
-invariant-of-self c =
+pub invariant_of-self : goal.invariant_of-self
+invariant_of-self c =
     let d = c.args.self.now in
     let n = d.alias_count in
     let words = d.word_count in

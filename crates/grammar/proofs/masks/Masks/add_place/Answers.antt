@@ -14,7 +14,7 @@ module _ (c : Joined-k-eq0) where
       let p = c.args.rule.now in
       elim c.if-k-eq0.branch [
         | then-k-eq0 w ↦ opened_first p c.args.k c.args.place c.args.self.now c.if-k-eq0.self w.mark.new.sets w.if-k-eq0.true w.mark.ensures w.self-is
-        | else-k-eq0 w ↦ opened_later p c.args.k c.args.place c.args.self.now c.if-k-eq0.self (omega (arith, w.if-k-eq0.false)) (omega (arith, c.requires.1, whole)) w.self-is
+        | else-k-eq0 w ↦ opened_later p c.args.k c.args.place c.args.self.now c.if-k-eq0.self (omega (arith, w.if-k-eq0.false)) (omega (arith, c.requires.k_le_len, whole)) w.self-is
       ]
 
 pub returns-then-k-rule : goal.returns-then-k-rule
@@ -31,7 +31,7 @@ returns-else-k-rule c =
     let d = (goal.at.returns-else-k-rule c).Joined-k-eq0 in
     let p = c.args.rule.now in
     let room : p.len ≤ length p.symbols = search rules in
-    let within : c.args.k < p.len = omega (arith, c.requires.1) in
+    let within : c.args.k < p.len = omega (arith, c.requires.k_le_len) in
     let sum = c.add_symbol.ensures in
     record {
       whole = whole d;

@@ -7,14 +7,14 @@ pub loop-rule-init : goal.loop-rule-init
 loop-rule-init c = (refl, refl, c.none-masks.ensures c.args.nullable)
 
 pub add_rule-requires : goal.add_rule-requires
-add_rule-requires c = (
-  c.requires.0 c.loop-rule.rule-index c.loop-rule-test.true,
-  room_rule c.args.rules.now c.loop-rule.rule-index c.loop-rule-test.true c.loop-rule.start c.loop-rule.invariant.0 c.requires.1,
-)
+add_rule-requires c = (record {
+  formed = c.requires.all_formed c.loop-rule.rule-index c.loop-rule-test.true;
+  len_bound = room_rule c.args.rules.now c.loop-rule.rule-index c.loop-rule-test.true c.loop-rule.start c.loop-rule.invariant.0 c.requires.rules_bound;
+})
 
-pub overflow-add-start-in-loop-rule : goal.overflow-add-start-in-loop-rule
-overflow-add-start-in-loop-rule c =
-    let room = room_rule c.args.rules.now c.loop-rule.rule-index c.loop-rule-test.true c.loop-rule.start c.loop-rule.invariant.0 c.requires.1 in
+pub overflow_add-start-in-loop-rule : goal.overflow_add-start-in-loop-rule
+overflow_add-start-in-loop-rule c =
+    let room = room_rule c.args.rules.now c.loop-rule.rule-index c.loop-rule-test.true c.loop-rule.start c.loop-rule.invariant.0 c.requires.rules_bound in
     omega arith
 
 pub loop-rule-preserved : goal.loop-rule-preserved
@@ -33,5 +33,5 @@ returns c =
     let inv = c.loop-rule.invariant in
     record {
       masked = masked c.args.rules.now c.loop-rule.rule-index c.args.nullable c.loop-rule.masks c.loop-rule-test.false inv.2;
-      fitting = fitting c.args.rules.now c.loop-rule.rule-index c.loop-rule.start c.loop-rule-test.false inv.0 inv.1 c.requires.1;
+      fitting = fitting c.args.rules.now c.loop-rule.rule-index c.loop-rule.start c.loop-rule-test.false inv.0 inv.1 c.requires.rules_bound;
     }

@@ -11,7 +11,7 @@ returns-in-Some g c =
     let k = g.S.Source.meaning s.below in
     let k' = g.S.Source.meaning c.next.new.self in
     let long : length s.pairs ≡ 16 = search rules in
-    let e = c.in-ok-heard.ensures in
-    let t = alias_says (take s.count s.pairs) k k' h c.lookup.result (called c.in-ok-heard.field-0 (Some h) k k' c.in-Some.is e.answer e.left)
+    let e = c.in_ok-heard.ensures in
+    let t = alias_says (take s.count s.pairs) k k' h c.lookup.result (called c.in_ok-heard.field-0 (Some h) k k' c.in-Some.is e.answer e.left)
     (c.lookup.ensures ∙ ap (λ ps. meant_by ps h.word) (take_capped s.count c.min.result s.pairs c.min.ensures long)) in
     record { answer = t.answer; left = t.left }

@@ -13,25 +13,25 @@ returns-then-start-message c =
     let t = text_ends s.message.now s.at c.past_spaces-start.result _ c.past_spaces-start.ensures refl (words_in s.sheet.now) c.if-start-message.true in
     record { answer = t.answer; left = t.left }
 
-pub slice-bounds-read_word-end : goal.slice-bounds-read_word-end
-slice-bounds-read_word-end c =
+pub slice_bounds-read_word-end : goal.slice_bounds-read_word-end
+slice_bounds-read_word-end c =
     let s = c.args.self.now in
     over_within s.message.now s.at c.past_spaces-start.result c.past_run-end.result c.past_spaces-start.ensures c.past_run-end.ensures c.if-start-message.false
 
-pub returns-in-err-word : goal.returns-in-err-word
-returns-in-err-word c =
+pub returns-in_err-word : goal.returns-in_err-word
+returns-in_err-word c =
     let s = c.args.self.now in
-    let f = c.in-err-word.field-0.0 in
-    let t = text_faults s.message.now s.at c.past_spaces-start.result c.past_run-end.result c.past_spaces-start.ensures c.past_run-end.ensures (words_in s.sheet.now) c.if-start-message.false (told f) (c.in-err-word.ensures ∙ ap (λ ws. verdict (map text ws) (record { place = c.past_spaces-start.result; bytes = take (c.past_run-end.result - c.past_spaces-start.result) (drop c.past_spaces-start.result s.message.now) })) c.words.ensures) in
+    let f = c.in_err-word.field-0.0 in
+    let t = text_faults s.message.now s.at c.past_spaces-start.result c.past_run-end.result c.past_spaces-start.ensures c.past_run-end.ensures (words_in s.sheet.now) c.if-start-message.false (told f) (c.in_err-word.ensures ∙ ap (λ ws. verdict (map text ws) (record { place = c.past_spaces-start.result; bytes = take (c.past_run-end.result - c.past_spaces-start.result) (drop c.past_spaces-start.result s.message.now) })) c.words.ensures) in
     record {
-      answer = handed_on c.from-residual.result f c.from-residual.ensures.1 ∙ t.answer;
+      answer = handed_on c.from_residual.result f c.from_residual.ensures.1 ∙ t.answer;
       left = t.left;
     }
 
 pub returns : goal.returns
 returns c =
     let s = c.args.self.now in
-    let t = text_says s.message.now s.at c.past_spaces-start.result c.past_run-end.result c.past_spaces-start.ensures c.past_run-end.ensures (words_in s.sheet.now) c.if-start-message.false c.in-ok-word.word (c.in-ok-word.ensures ∙ ap (λ ws. verdict (map text ws) (record { place = c.past_spaces-start.result; bytes = take (c.past_run-end.result - c.past_spaces-start.result) (drop c.past_spaces-start.result s.message.now) })) c.words.ensures) in
+    let t = text_says s.message.now s.at c.past_spaces-start.result c.past_run-end.result c.past_spaces-start.ensures c.past_run-end.ensures (words_in s.sheet.now) c.if-start-message.false c.in_ok-word.word (c.in_ok-word.ensures ∙ ap (λ ws. verdict (map text ws) (record { place = c.past_spaces-start.result; bytes = take (c.past_run-end.result - c.past_spaces-start.result) (drop c.past_spaces-start.result s.message.now) })) c.words.ensures) in
     record { answer = t.answer; left = t.left }
 
 pub read_word-requires : goal.read_word-requires
