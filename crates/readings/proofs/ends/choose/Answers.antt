@@ -7,16 +7,16 @@ pub loop-n-init : goal.loop-n-init
 loop-n-init g c = choosing_none g.S.Scale.measure g.met.S.Scale.lawful _ _ _ _ _ c.args.m
 
 pub symbol_price-first-requires : goal.symbol_price-first-requires
-symbol_price-first-requires g c = ((omega arith, omega arith, omega arith, omega arith, omega arith), c.requires.1.2 c.args.d (omega arith))
+symbol_price-first-requires g c = (record { m_le_n = (omega arith, omega arith, omega arith, omega arith, omega arith); counted = c.requires.formed.2 c.args.d (omega arith) })
 
 pub loop-n-preserved : goal.loop-n-preserved
 loop-n-preserved g c =
     elim c.if-improves.branch [
       | goal.then-improves w ↦ choosing_take g.S.Scale.measure g.met.S.Scale.lawful _ _ _ _ _ c.loop-n.n c.loop-n.to c.loop-n.best c.symbol_price-first.result c.read_column.result c.join_both-both.result c.if-improves.to c.if-improves.best w.to-is w.best-is
-          c.loop-n.auto.n c.symbol_price-first.ensures c.join_both-both.ensures (subst (Least g.S.Scale.measure _) (sym c.read_column.ensures) (c.requires.2 c.loop-n.n c.loop-n.auto.n (omega arith)))
+          c.loop-n.auto.n c.symbol_price-first.ensures c.join_both-both.ensures (subst (Least g.S.Scale.measure _) (sym c.read_column.ensures) (c.requires.column c.loop-n.n c.loop-n.auto.n (omega arith)))
           (c.improves.ensures.yes w.if-improves.true) c.loop-n.invariant
       | goal.else-improves w ↦ choosing_keep g.S.Scale.measure g.met.S.Scale.lawful _ _ _ _ _ c.loop-n.n c.loop-n.to c.loop-n.best c.symbol_price-first.result c.read_column.result c.join_both-both.result c.if-improves.to c.if-improves.best w.to-is w.best-is
-          c.loop-n.auto.n c.symbol_price-first.ensures c.join_both-both.ensures (subst (Least g.S.Scale.measure _) (sym c.read_column.ensures) (c.requires.2 c.loop-n.n c.loop-n.auto.n (omega arith)))
+          c.loop-n.auto.n c.symbol_price-first.ensures c.join_both-both.ensures (subst (Least g.S.Scale.measure _) (sym c.read_column.ensures) (c.requires.column c.loop-n.n c.loop-n.auto.n (omega arith)))
           (c.improves.ensures.no w.if-improves.false) c.loop-n.invariant
     ]
 

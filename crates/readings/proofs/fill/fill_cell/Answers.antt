@@ -3,13 +3,13 @@ use Rattle.readings.proofs.Fills.{filling_start, filling_done, filling_full}
 use Rattle.readings.proofs.fill.fill_cell.Goals as goal
 
 pub loop-k-init : goal.loop-k-init
-loop-k-init g c = (filling_start c.args.rules.now g.S.Scale.measure g.met.S.Scale.lawful _ _ _ _ (rw (add-one c.args.i) at c.requires.2), c.offer_all.ensures, omega arith)
+loop-k-init g c = (filling_start c.args.rules.now g.S.Scale.measure g.met.S.Scale.lawful _ _ _ _ (rw (add-one c.args.i) at c.requires.filled), c.offer_all.ensures, omega arith)
 
 pub price_next-requires : goal.price_next-requires
 price_next-requires g c =
     record {
       bounds = (omega arith, omega arith, omega arith, omega arith, omega arith, omega arith, omega arith, omega arith, omega arith, omega arith, omega arith);
-      formed = c.requires.1;
+      formed = c.requires.all_formed;
       filling = c.loop-k.invariant.0;
       gathered = c.loop-k.invariant.1;
     }
@@ -24,4 +24,4 @@ pub returns : goal.returns
 returns g c =
     let e : c.loop-k.k ≡ 32 = omega arith in
     let f = rw e at c.loop-k.invariant.0 in
-    filling_done c.args.rules.now g.S.Scale.measure g.met.S.Scale.lawful _ _ _ _ 32 f (filling_full c.args.rules.now g.S.Scale.measure g.met.S.Scale.lawful _ _ _ _ f (λ r h. (c.requires.1 r h).0))
+    filling_done c.args.rules.now g.S.Scale.measure g.met.S.Scale.lawful _ _ _ _ 32 f (filling_full c.args.rules.now g.S.Scale.measure g.met.S.Scale.lawful _ _ _ _ f (λ r h. (c.requires.all_formed r h).0))

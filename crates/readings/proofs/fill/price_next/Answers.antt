@@ -27,11 +27,11 @@ put_price-requires g c =
     (omega arith, omega arith, (c.requires.formed c.cheapest_offer-found.result.rule h).0, omega arith, omega arith, omega arith, omega arith)
 
 pub reprice-requires : goal.reprice-requires
-reprice-requires g c = (
-  (omega arith, omega arith, omega arith, omega arith, omega arith, omega arith, omega arith, omega arith, omega arith),
-  c.requires.formed,
-  repriced_none g.S.Scale.measure g.met.S.Scale.lawful _ _ _ _ _ _ _ _ _ c.put_price.ensures c.requires.filling.ranked c.args.rules.now _ c.requires.gathered,
-)
+reprice-requires g c = (record {
+  i_le_j = (omega arith, omega arith, omega arith, omega arith, omega arith, omega arith, omega arith, omega arith, omega arith);
+  all_formed = c.requires.formed;
+  repriced = repriced_none g.S.Scale.measure g.met.S.Scale.lawful _ _ _ _ _ _ _ _ _ c.put_price.ensures c.requires.filling.ranked c.args.rules.now _ c.requires.gathered;
+})
 
 pub returns : goal.returns
 returns g c =

@@ -3,10 +3,10 @@ use Rattle.readings.proofs.Offering.{repriced_more, repriced_same, repriced_as}
 use Rattle.readings.proofs.offers.reprice.Goals as goal
 
 pub touches-requires : goal.touches-requires
-touches-requires g c = (c.requires.1 c.loop-r.r (omega arith)).1
+touches-requires g c = (c.requires.all_formed c.loop-r.r (omega arith)).1
 
 pub offer_of-offer-requires : goal.offer_of-offer-requires
-offer_of-offer-requires g c = ((omega arith, omega arith, omega arith, omega arith, omega arith, omega arith, omega arith), c.requires.1 c.loop-r.r (omega arith))
+offer_of-offer-requires g c = (record { i_le_j = (omega arith, omega arith, omega arith, omega arith, omega arith, omega arith, omega arith); formed = c.requires.all_formed c.loop-r.r (omega arith) })
 
 pub loop-r-preserved : goal.loop-r-preserved
 loop-r-preserved g c =

@@ -8,7 +8,7 @@ pub fill_table-requires : goal.fill_table-requires
 fill_table-requires g c =
     let e = sym c.rules-rules.ensures in
     let l : length c.rules-rules.result.now ≤ 128 = subst (λ (rs : List Rule). length rs ≤ 128) e (rules_few c.args.sheet.now) in
-    ((omega arith, omega arith, omega arith, omega arith, omega arith, omega arith, omega arith), subst (AllFormed 32 64) e (rules_formed c.args.sheet.now))
+    (record { n_bound = (omega arith, omega arith, omega arith, omega arith, omega arith, omega arith, omega arith); all_formed = subst (AllFormed 32 64) e (rules_formed c.args.sheet.now) })
 
 pub read_table-requires : goal.read_table-requires
 read_table-requires g c =

@@ -50,7 +50,7 @@ find_end-to-requires g c =
     let o = top_open g.met.S.Scale.lawful c.requires.recorded e c.unpack-i.ensures c.requires.stage in
     let l = top_listed g.met.S.Scale.lawful c.requires.recorded e c.unpack-i.ensures c.requires.stage c.rank_of-k.ensures c.rule_of-r.ensures in
     let p = c.requires.formed c.rule_of-r.result l in
-    ((omega arith, omega arith, omega arith, omega arith, omega arith, omega arith, omega arith, omega arith, omega arith), p)
+    (record { i_le_m = (omega arith, omega arith, omega arith, omega arith, omega arith, omega arith, omega arith, omega arith, omega arith); formed = p })
 
 pub push_frame-requires : goal.push_frame-requires
 push_frame-requires g c =

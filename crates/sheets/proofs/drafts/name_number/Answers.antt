@@ -12,7 +12,7 @@ invariant_of-draft c =
     let lettered = subst (Lettered name_spelled d.name_count) same d.lettered_names in
     let brief = subst (Brief d.name_count) same d.brief_names in
     let apart = subst (λ xs. ∥ Apart (texts d.name_count xs) ∥₁) same d.apart_names in
-    (d.counts, (d.lefts, (d.short, (d.rights, (lettered, (d.lettered_words, (brief, (d.brief_words, (apart, (d.apart_words, (d.aliased, (d.placed, (d.filled, tt)))))))))))))
+    record { counts = d.counts; lefts = d.lefts; short = d.short; rights = d.rights; lettered_names = lettered; lettered_words = d.lettered_words; brief_names = brief; brief_words = d.brief_words; apart_names = apart; apart_words = d.apart_words; aliased = d.aliased; placed = d.placed; filled = d.filled }
 
 pub invariant_of-draft-2 : goal.invariant_of-draft-2
 invariant_of-draft-2 c =
@@ -24,4 +24,4 @@ invariant_of-draft-2 c =
     let lettered = lettered_with i name_spelled d.lettered_names c.requires.0 in
     let brief = brief_with i d.brief_names in
     let apart = apart_with i d.apart_names in
-    ((d.counts.0, room, d.counts.2, d.counts.3), (lefts, (d.short, (rights, (lettered, (d.lettered_words, (brief, (d.brief_words, (apart, (d.apart_words, (d.aliased, (d.placed, (d.filled, tt)))))))))))))
+    record { counts = (d.counts.0, room, d.counts.2, d.counts.3); lefts = lefts; short = d.short; rights = rights; lettered_names = lettered; lettered_words = d.lettered_words; brief_names = brief; brief_words = d.brief_words; apart_names = apart; apart_words = d.apart_words; aliased = d.aliased; placed = d.placed; filled = d.filled }

@@ -12,7 +12,7 @@ invariant_of-draft c =
     let lettered = subst (Lettered word_spelled d.word_count) same d.lettered_words in
     let brief = subst (Brief d.word_count) same d.brief_words in
     let apart = subst (λ xs. ∥ Apart (texts d.word_count xs) ∥₁) same d.apart_words in
-    (d.counts, (d.lefts, (d.short, (d.rights, (d.lettered_names, (lettered, (d.brief_names, (brief, (d.apart_names, (apart, (d.aliased, (d.placed, (d.filled, tt)))))))))))))
+    record { counts = d.counts; lefts = d.lefts; short = d.short; rights = d.rights; lettered_names = d.lettered_names; lettered_words = lettered; brief_names = d.brief_names; brief_words = brief; apart_names = d.apart_names; apart_words = apart; aliased = d.aliased; placed = d.placed; filled = d.filled }
 
 pub invariant_of-draft-2 : goal.invariant_of-draft-2
 invariant_of-draft-2 c =
@@ -25,4 +25,4 @@ invariant_of-draft-2 c =
     let brief = brief_with i d.brief_words in
     let apart = apart_with i d.apart_words in
     let aliased = aliased_among_more d.name_count d.word_count d.name_count c.in-Some.count (omega arith) i.grown d.alias_count d.aliases d.aliased in
-    ((d.counts.0, d.counts.1, room, d.counts.3), (d.lefts, (d.short, (rights, (d.lettered_names, (lettered, (d.brief_names, (brief, (d.apart_names, (apart, (aliased, (d.placed, (omega (arith, d.filled), tt)))))))))))))
+    record { counts = (d.counts.0, d.counts.1, room, d.counts.3); lefts = d.lefts; short = d.short; rights = rights; lettered_names = d.lettered_names; lettered_words = lettered; brief_names = d.brief_names; brief_words = brief; apart_names = d.apart_names; apart_words = apart; aliased = aliased; placed = d.placed; filled = omega (arith, d.filled) }

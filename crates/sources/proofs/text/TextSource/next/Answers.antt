@@ -43,4 +43,4 @@ read_word-requires c =
     let part = length-take (c.past_run-end.result - c.past_spaces-start.result) (drop c.past_spaces-start.result m) in
     let rest = length-drop c.past_spaces-start.result m in
     let long : length m < 2 ^ 64 = search rules in
-    (omega (arith, s.counts.3), omega (arith, c.if-start-message.false))
+    (record { words_len_bound = omega (arith, s.counts.3); run_bound = omega (arith, c.if-start-message.false) })
