@@ -22,7 +22,7 @@ fn moved(fault: Fault, place: usize) -> Fault
 // Hears at the seat's own numbers, whatever they were.
 fn listen<S: Source>(sheet: &Sheet, seat: &mut [u64], source: &mut S) -> Result<usize, Fault>
     requires { length seat.old ≡ 945 }
-    ensures { (vs : List ℕ) × HeardOut sheet.now (meaning source.old) (telling result) vs (meaning source.new) × Seat sheet.now vs seat.new }
+    ensures { (vs : List ℕ) × HeardOut sheet.now (S.meaning source.old) (telling result) vs (S.meaning source.new) × Seat sheet.now vs seat.new }
 {
     vacate(sheet, seat);
     let mut n = 0;
@@ -42,8 +42,8 @@ pub fn hear<S: Source>(
     seat: usize,
     source: &mut S,
 ) -> Result<usize, Fault>
-    ensures made { Anew sheet.now seat (hear_at seat (meaning source.old)) hall.old (telling result) hall.new (hear_at seat (meaning source.new)) }
-    ensures kept { Keeps sheet.now (hear_at seat (meaning source.old)) hall.old hall.new }
+    ensures made { Anew sheet.now seat (hear_at seat (S.meaning source.old)) hall.old (telling result) hall.new (hear_at seat (S.meaning source.new)) }
+    ensures kept { Keeps sheet.now (hear_at seat (S.meaning source.old)) hall.old hall.new }
 {
     if !is_seat(hall, seat) {
         return Err(Fault::new(Refusal::NoSuchSeat, 0, Layer::Seat));

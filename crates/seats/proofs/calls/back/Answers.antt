@@ -11,7 +11,7 @@ take_off-requires c =
     let hall = c.args.hall.now in
     let k = c.args.seat in
     let free = c.in-None.ensures in
-    (loan_long hall k free.0, loan_whole c.args.sheet.now k hall free)
+    (record { seat_len = loan_long hall k free.0; whole = loan_whole c.args.sheet.now k hall free })
 
 pub returns-in-Some : goal.returns-in-Some
 returns-in-Some c =

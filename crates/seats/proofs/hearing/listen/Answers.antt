@@ -13,7 +13,7 @@ pub add-requires : goal.add-requires
 add-requires g c =
     let l = c.loop-heard in
     let stand = l.invariant.stand in
-    (stand.size, seat_whole c.args.sheet.now l.invariant.words l.seat stand)
+    (record { seat_len = stand.size; whole = seat_whole c.args.sheet.now l.invariant.words l.seat stand })
 
 pub returns-in_err-heard : goal.returns-in_err-heard
 returns-in_err-heard g c =

@@ -47,10 +47,10 @@ pub fill_column-requires : goal.fill_column-requires
 fill_column-requires c =
     let xs = c.args.seat.now in
     let n = get_or xs 0 0 in
-    let few = c.requires.1.few in
+    let few = c.requires.whole.few in
     let zs = set (set xs (n + 1) c.args.word) 0 (n + 1) in
     record {
-      whole = length-take-le 924 (drop 21 zs) (omega (arith, length-drop 21 zs, length-set (set xs (n + 1) c.args.word) 0 (n + 1), length-set xs (n + 1) c.args.word, c.requires.0));
+      whole = length-take-le 924 (drop 21 zs) (omega (arith, length-drop 21 zs, length-set (set xs (n + 1) c.args.word) 0 (n + 1), length-set xs (n + 1) c.args.word, c.requires.seat_len));
       low = omega (arith, c.if-n-eq20.false);
       listed = listed_low c.args.sheet.now c.args.word (omega arith);
     }

@@ -10,4 +10,4 @@ returns c = λ ws h w.
     let s = c.args.sheet.now in
     let xs = c.args.seat.now in
     let n = seat_count s ws xs h in
-    c.offer.ensures.exact ws w n (subst (λ (t : List ℕ). Column (grammar_of s) ws t (get_or xs 0 0)) (sym (lent_is xs c.requires.0)) (h.table (get_or xs 0 0) c.requires.1.few))
+    c.offer.ensures.exact ws w n (subst (λ (t : List ℕ). Column (grammar_of s) ws t (get_or xs 0 0)) (sym (lent_is xs c.requires.seat_len)) (h.table (get_or xs 0 0) c.requires.whole.few))
