@@ -34,8 +34,8 @@ pub struct Turn<T> {
 
 // Makes one call.
 fn make<T: Source>(sheet: &Sheet, hall: &mut [u64], call: &mut Call<T>) -> Result<usize, Fault>
-    ensures kept { Keeps sheet.now (called meaning call.old) hall.old hall.new }
-    ensures answer { (cs : _) → Kept sheet.now cs hall.old → Answered sheet.now cs (called meaning call.old) (telling result) (called meaning call.new) }
+    ensures kept { Keeps sheet.now (called T.meaning call.old) hall.old hall.new }
+    ensures answer { (cs : _) → Kept sheet.now cs hall.old → Answered sheet.now cs (called T.meaning call.old) (telling result) (called T.meaning call.new) }
 {
     match call {
         Call::Open => open(sheet, hall),
@@ -48,7 +48,7 @@ fn make<T: Source>(sheet: &Sheet, hall: &mut [u64], call: &mut Call<T>) -> Resul
 
 // Makes a turn's call and keeps the answer.
 fn take_turn<T: Source>(sheet: &Sheet, hall: &mut [u64], turn: &mut Turn<T>)
-    ensures { (cs : _) → Kept sheet.now cs hall.old → Turned meaning sheet.now cs turn.old turn.new hall.new }
+    ensures { (cs : _) → Kept sheet.now cs hall.old → Turned T.meaning sheet.now cs turn.old turn.new hall.new }
 {
     let answer = make(sheet, hall, &mut turn.call);
     turn.answer = answer;
