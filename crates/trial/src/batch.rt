@@ -8,7 +8,7 @@ use grammar::sheet::Sheet;
 use seats::calls::open;
 use sheets::load::load;
 use std::alloc::{AllocError, Global};
-use std::{fmt, io};
+use std::io;
 
 // The case at hand: what is written, and what the library answers to its sheets and messages.
 #[derive(Drop)]
@@ -38,8 +38,8 @@ impl Case {
     }
 
     // A refused text leaves the sheet that was there; the hall is opened either way.
-    fn answer_sheet(&mut self, text: &str) -> fmt::Result {
-        let bytes = decoded(self.heap, text).or(Err(fmt::Error))?;
+    fn answer_sheet(&mut self, text: &str) -> Result<(), AllocError> {
+        let bytes = decoded(self.heap, text)?;
         match load(bytes.as_slice(), &mut self.sheet) {
             Ok(()) => push_sheet(&mut self.found, &self.sheet)?,
             Err(fault) => push_fault(&mut self.found, fault)?,
@@ -48,8 +48,8 @@ impl Case {
         Ok(())
     }
 
-    fn answer_message(&mut self, text: &str) -> fmt::Result {
-        let message = decoded(self.heap, text).or(Err(fmt::Error))?;
+    fn answer_message(&mut self, text: &str) -> Result<(), AllocError> {
+        let message = decoded(self.heap, text)?;
         let seat = self.heard % 4;
         let answer = hear_message(
             &self.sheet,
@@ -60,8 +60,8 @@ impl Case {
         self.answer_hearing(answer)
     }
 
-    fn answer_codes(&mut self, text: &str) -> fmt::Result {
-        let numbers = decoded(self.heap, text).or(Err(fmt::Error))?;
+    fn answer_codes(&mut self, text: &str) -> Result<(), AllocError> {
+        let numbers = decoded(self.heap, text)?;
         let seat = self.heard % 4;
         let answer = hear_codes(
             &self.sheet,
@@ -73,7 +73,7 @@ impl Case {
     }
 
     // The four seats hear in turn.
-    fn answer_hearing(&mut self, answer: Result<usize, Fault>) -> fmt::Result {
+    fn answer_hearing(&mut self, answer: Result<usize, Fault>) -> Result<(), AllocError> {
         let view = View {
             sheet: &self.sheet,
             hall: self.hall.as_slice(),
@@ -85,7 +85,7 @@ impl Case {
     }
 
     // What is loaded or heard is copied and answered; the answers written after it are only kept.
-    fn take_line(&mut self, line: &str) -> fmt::Result {
+    fn take_line(&mut self, line: &str) -> Result<(), AllocError> {
         write!(self.written, "{line}\n")?;
         match line.split_once(' ') {
             Some(("sheet", text)) => {
@@ -119,7 +119,7 @@ pub(crate) fn show_batch(rt: &HostRuntime, title: &str, text: &str) -> io::Resul
     let mut agreeing = 0u64;
     for line in text.lines() {
         if !line.is_empty() {
-            case.take_line(line).or(Err(AllocError))?;
+            case.take_line(line)?;
             continue;
         }
         count = count.wrapping_add(1);

@@ -5,9 +5,7 @@ use super::views::View;
 use faults::Fault;
 use reader::read::read;
 use readings::scale::{One, Plain, Points, Worst};
-use std::alloc::Global;
-use std::fmt;
-use std::fmt::Write;
+use std::alloc::{AllocError, Global};
 
 #[derive(Clone, Copy)]
 enum Measure {
@@ -86,7 +84,12 @@ fn read_plain(view: View<'_>, list: &mut [u8]) -> Result<(usize, u32), Fault> {
     Ok((reading.length, 0))
 }
 
-fn push_reading(heap: Global, out: &mut String, view: View<'_>, measure: Measure) -> fmt::Result {
+fn push_reading(
+    heap: Global,
+    out: &mut String,
+    view: View<'_>,
+    measure: Measure,
+) -> Result<(), AllocError> {
     let mut list = [0u8; 10240];
     match measure.read(view, &mut list) {
         Err(fault) => push_fault(out, fault),
@@ -100,7 +103,11 @@ fn push_reading(heap: Global, out: &mut String, view: View<'_>, measure: Measure
     }
 }
 
-pub(crate) fn push_readings(heap: Global, out: &mut String, view: View<'_>) -> fmt::Result {
+pub(crate) fn push_readings(
+    heap: Global,
+    out: &mut String,
+    view: View<'_>,
+) -> Result<(), AllocError> {
     push_reading(heap, out, view, Measure::Points)?;
     push_reading(heap, out, view, Measure::Worst)?;
     push_reading(heap, out, view, Measure::Plain)

@@ -11,11 +11,9 @@ use sources::codes::Codes;
 use sources::filler::Filler;
 use sources::pile::pile;
 use sources::text::Text;
-use std::alloc::Global;
-use std::fmt;
-use std::fmt::Write;
+use std::alloc::{AllocError, Global};
 
-fn push_words(out: &mut String, words: &[u64]) -> fmt::Result {
+fn push_words(out: &mut String, words: &[u64]) -> Result<(), AllocError> {
     write!(out, "standing")?;
     for word in words {
         write!(out, " {word}")?;
@@ -24,7 +22,7 @@ fn push_words(out: &mut String, words: &[u64]) -> fmt::Result {
 }
 
 // The numbers of the table that are not 0, by their positions.
-fn push_table(out: &mut String, table: &[u64]) -> fmt::Result {
+fn push_table(out: &mut String, table: &[u64]) -> Result<(), AllocError> {
     write!(out, "table")?;
     for (position, number) in table.iter().enumerate() {
         if *number != 0 {
@@ -34,7 +32,7 @@ fn push_table(out: &mut String, table: &[u64]) -> fmt::Result {
     write!(out, "\n")
 }
 
-fn push_held(out: &mut String, view: View<'_>) -> fmt::Result {
+fn push_held(out: &mut String, view: View<'_>) -> Result<(), AllocError> {
     match held(view.sheet, view.hall, view.seat) {
         Ok(bits) => write!(out, "held {bits} ")?,
         Err(fault) => push_fault(out, fault)?,
@@ -45,7 +43,7 @@ fn push_held(out: &mut String, view: View<'_>) -> fmt::Result {
     }
 }
 
-fn push_answer(out: &mut String, answer: Result<usize, Fault>) -> fmt::Result {
+fn push_answer(out: &mut String, answer: Result<usize, Fault>) -> Result<(), AllocError> {
     match answer {
         Ok(count) => write!(out, "heard {count}\n"),
         Err(fault) => push_fault(out, fault),
@@ -78,7 +76,7 @@ pub(crate) fn push_heard(
     out: &mut String,
     view: View<'_>,
     answer: Result<usize, Fault>,
-) -> fmt::Result {
+) -> Result<(), AllocError> {
     push_answer(out, answer)?;
     push_words(out, view.words())?;
     push_table(out, view.numbers(21, 924))?;

@@ -2,17 +2,16 @@
 use faults::Fault;
 use grammar::sheet::Sheet;
 use grammar::{Rule, Spelling, Symbol};
-use std::fmt;
-use std::fmt::Write;
+use std::alloc::AllocError;
 
-pub(crate) fn push_fault(out: &mut String, fault: Fault) -> fmt::Result {
+pub(crate) fn push_fault(out: &mut String, fault: Fault) -> Result<(), AllocError> {
     let number = fault.refusal.number();
     let place = fault.place;
     let layer = fault.layer.number();
     write!(out, "refused {number} {place} {layer}\n")
 }
 
-fn push_spelling(out: &mut String, spelling: &Spelling) -> fmt::Result {
+fn push_spelling(out: &mut String, spelling: &Spelling) -> Result<(), AllocError> {
     write!(out, " ")?;
     for b in spelling.bytes.iter().take(spelling.len as usize) {
         write!(out, "{}", *b as char)?;
@@ -20,7 +19,7 @@ fn push_spelling(out: &mut String, spelling: &Spelling) -> fmt::Result {
     Ok(())
 }
 
-fn push_spellings(out: &mut String, title: &str, spellings: &[Spelling]) -> fmt::Result {
+fn push_spellings(out: &mut String, title: &str, spellings: &[Spelling]) -> Result<(), AllocError> {
     write!(out, "{title}")?;
     for spelling in spellings {
         push_spelling(out, spelling)?;
@@ -28,7 +27,7 @@ fn push_spellings(out: &mut String, title: &str, spellings: &[Spelling]) -> fmt:
     write!(out, "\n")
 }
 
-fn push_rule(out: &mut String, rule: &Rule) -> fmt::Result {
+fn push_rule(out: &mut String, rule: &Rule) -> Result<(), AllocError> {
     write!(out, "rule {} N{}", rule.weight, rule.left)?;
     for symbol in rule.symbols.iter().take(rule.len as usize) {
         match *symbol {
@@ -39,14 +38,14 @@ fn push_rule(out: &mut String, rule: &Rule) -> fmt::Result {
     write!(out, "\n")
 }
 
-fn push_rules(out: &mut String, sheet: &Sheet) -> fmt::Result {
+fn push_rules(out: &mut String, sheet: &Sheet) -> Result<(), AllocError> {
     for rule in sheet.rules() {
         push_rule(out, rule)?;
     }
     Ok(())
 }
 
-fn push_aliases(out: &mut String, sheet: &Sheet) -> fmt::Result {
+fn push_aliases(out: &mut String, sheet: &Sheet) -> Result<(), AllocError> {
     for alias in sheet.aliases() {
         write!(out, "alias {} {}\n", alias.said, alias.meant)?;
     }
@@ -64,7 +63,7 @@ fn nullable_bits(sheet: &Sheet) -> u32 {
     bits
 }
 
-pub(crate) fn push_sheet(out: &mut String, sheet: &Sheet) -> fmt::Result {
+pub(crate) fn push_sheet(out: &mut String, sheet: &Sheet) -> Result<(), AllocError> {
     push_spellings(out, "names", sheet.names())?;
     push_spellings(out, "words", sheet.words())?;
     push_rules(out, sheet)?;
