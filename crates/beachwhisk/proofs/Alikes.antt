@@ -12,7 +12,7 @@ use Rattle.grammar.specs.Trees.{Matches, Command, Replaced, Becomes, same, then,
 use Rattle.grammar.specs.View.{Plain, plain}
 use Rattle.grammar.proofs.Plains.{fits_plain}
 use Rattle.tables.specs.Table.{stretch, Stands, Offered}
-use Rattle.tables.specs.Columns.{first_place, cell_of, Standing, Column}
+use Rattle.tables.specs.Columns.{first_place, cell_of, Column}
 
 -- first places, by plain rules
 firsts : List Plain → ℕ → ℕ

@@ -6,9 +6,8 @@ use Rattle.sheets.proofs.OneSheet.{one_sheet}
 use Rattle.sources.specs.declared.source.Heard.{Heard}
 use Rattle.sources.specs.Meanings.{renamed, without}
 use Rattle.sources.specs.Messages.{spoken}
-use Rattle.sources.specs.Piles.{piled}
 use Rattle.seats.specs.Seats.{Listed, Seat, seat}
-use Rattle.seats.specs.Standing.{Call, open_all, clear_at, say_at, back_at, hear_at, Adds, Here, Spoken, SpokenAll, Step, Standing, Kept}
+use Rattle.seats.specs.Standing.{Call, open_all, clear_at, say_at, back_at, hear_at, Adds, SpokenAll, Step, Standing, Kept}
 use Rattle.beachwhisk.specs.Calls.{OneHall, OneHearing}
 use Rattle.beachwhisk.proofs.Alikes.{at, offered_alike, column_alike}
 

@@ -1,5 +1,5 @@
 -- A run and a source heard after it, joined. Assumes nothing.
-use Rattle.std.proofs.Common.{◌≡◌, ℕ, ◌≢◌, List, length, Result, sym, ap, ◌∙◌, subst}
+use Rattle.std.proofs.Common.{ℕ, List, length, Result, sym, ap, ◌∙◌}
 use Rattle.faults.specs.Faults.{Told}
 use Rattle.grammar.specs.declared.sheet.Sheet.{Sheet}
 use Rattle.sources.specs.Meanings.{Meaning}

@@ -1,9 +1,9 @@
 -- Bytes cut at their first tab or end of line.
-use Rattle.std.proofs.Common.{◌≡◌, ℕ, zero, suc, ◌+◌, ◌-◌, ◌*◌, ◌<◌, ◌≤◌, Bool, true, false, not, ◌&&◌, eqb, leb, List, [], ◌∷◌, ◌++◌, length, get_or, take, drop, sym, refl, ap, ◌∙◌, subst, arith, ne_eqb}
+use Rattle.std.proofs.Common.{◌≡◌, ℕ, zero, suc, ◌+◌, ◌-◌, ◌*◌, ◌<◌, ◌≤◌, Bool, true, not, eqb, leb, List, [], ◌∷◌, ◌++◌, length, get_or, take, drop, sym, refl, ap, ◌∙◌, subst, arith, ne_eqb}
 use native.Mathlib.Nat.{sub-zero}
 use borrow.Author.Tests.{eqb-false}
-use Rattle.std.proofs.lemmas.List.{take_more, take_rest, take-append-drop, at_drop_more, at_drop_all}
-use Rattle.std.proofs.lemmas.Bool.{and_parts, and_from, not-true, leb-true, eq-eqb}
+use Rattle.std.proofs.lemmas.List.{take_more, take_rest, take-append-drop, at_drop_more}
+use Rattle.std.proofs.lemmas.Bool.{and_parts, and_from, not-true, leb-true}
 use Rattle.grammar.specs.Letters.{every, digit}
 use Rattle.sheets.specs.inner.Fields.{other, Opens, Cut}
 use Rattle.sheets.specs.Limits.{number_after}

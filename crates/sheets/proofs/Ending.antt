@@ -1,7 +1,6 @@
 -- A line ends at the first end of line.
-use Rattle.std.proofs.Common.{◌≡◌, ℕ, ◌-◌, ◌<◌, Bool, true, false, ◌&&◌, List, [], ◌∷◌, ◌++◌, map, length, take, drop, sym, refl, ap, ◌∙◌, subst, arith}
+use Rattle.std.proofs.Common.{◌≡◌, ℕ, ◌-◌, ◌<◌, true, List, [], ◌∷◌, ◌++◌, map, length, take, drop, sym, refl, ap, ◌∙◌, arith}
 use Rattle.std.specs.List.{AllByRecursion as All}
-use Rattle.std.proofs.lemmas.Bool.{and_from}
 use Rattle.grammar.specs.Letters.{digit, every}
 use Rattle.sheets.specs.Lines.{Spelled, Line, rule, alias, filler, spelling, tabbed, kind, fields, written, Means, weight_spelled, well, Well}
 use Rattle.sheets.specs.inner.Fields.{other, Opens, Cut}

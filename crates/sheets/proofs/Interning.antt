@@ -1,15 +1,14 @@
 -- Spellings kept once each.
-use Rattle.std.proofs.Common.{◌≡◌, ℕ, zero, suc, ◌+◌, ◌-◌, ◌<◌, ◌≤◌, Bool, true, false, cond, ◌||◌, ◌≢◌, ◌⊎◌, List, [], ◌∷◌, ◌++◌, map, length, get_or, take, set, sym, refl, ap, ◌∙◌, subst, inl, inr, arith, length-append, get_or-set_other, get_or-set_same, below_more}
+use Rattle.std.proofs.Common.{◌≡◌, ℕ, zero, suc, ◌+◌, ◌-◌, ◌<◌, ◌≤◌, Bool, true, false, ◌≢◌, List, [], ◌∷◌, ◌++◌, map, length, get_or, take, set, sym, refl, ap, ◌∙◌, subst, inl, inr, arith, length-append, get_or-set_other, get_or-set_same, below_more}
 use mathlib.Core.Logic.{∥∥₁_map}
 use native.Mathlib.Nat.{sub-zero}
-use borrow.Author.Tests.{clash}
 use Rattle.std.specs.Str.{bytes_eq}
 use Rattle.std.proofs.lemmas.Slice.Eq.{bytes_eq-Decides}
 use Rattle.std.proofs.lemmas.List.{length-set, take_more_set, map_push, get_or-map, get_or-take, length-take-le, length-map, get_or_push}
 use Rattle.std.proofs.lemmas.Bool.{cases_Bool, or_left, or_right, or_from, cond-true, cond-false}
 use Rattle.grammar.specs.declared.Spelling.{Spelling}
 use Rattle.grammar.specs.Limits.{no_spelling, text, texts, Lettered, Brief, Apart}
-use Rattle.sheets.specs.Spellings.{member, with_one}
+use Rattle.sheets.specs.Spellings.{member}
 use Rattle.sheets.specs.inner.Interns.{Interned, Crowded}
 use Rattle.sheets.proofs.Apartness.{apart_one}
 

@@ -1,8 +1,7 @@
 -- One line more of a text.
-use Rattle.std.proofs.Common.{◌≡◌, ℕ, suc, ◌+◌, ◌<◌, ◌≤◌, ◌⊎◌, List, [], ◌∷◌, ◌++◌, map, length, Err, sym, refl, ap, ◌∙◌, subst, inl, inr, arith, length-append}
+use Rattle.std.proofs.Common.{◌≡◌, ℕ, suc, ◌<◌, ◌≤◌, ◌⊎◌, List, [], ◌∷◌, ◌++◌, length, Err, sym, refl, ap, ◌∙◌, subst, inl, inr, arith, length-append}
 use Rattle.std.specs.List.{AllByRecursion as All}
 use Rattle.std.proofs.lemmas.List.{append_assoc, append-nil}
-use Rattle.std.proofs.ByRecursion.{All-push}
 use Rattle.sheets.specs.declared.lines.Parsed.{Parsed}
 use Rattle.sheets.specs.declared.lines.Parsed.TheVariants.{Rule, Alias, Filler}
 use Rattle.sheets.specs.Lines.{Line, rule, alias, filler, written, Means, Well}
@@ -12,7 +11,7 @@ use Rattle.grammar.specs.declared.draft.Draft.{Draft}
 use Rattle.sheets.specs.declared.refusals.Bar.{Bar}
 use Rattle.sheets.specs.declared.refusals.Bar.TheVariants.{Limit, Second as Second-alias}
 use Rattle.sheets.specs.Texts.{ended, Refuses}
-use Rattle.sheets.specs.inner.Drafting.{Drafted, Outcome, refusal_of}
+use Rattle.sheets.specs.inner.Drafting.{Outcome, refusal_of}
 
 -- what is parsed tells a line
 pub line_told : (p : Parsed) (line : List ℕ) → Tells p line → (ℓ : Line) × Means line ℓ

@@ -1,11 +1,11 @@
 -- Bytes mean one line at most.
-use Rattle.std.proofs.Common.{◌≡◌, ℕ, ◌<◌, ◌≤◌, Bool, true, false, not, ◌&&◌, ◌||◌, eqb, leb, ◌⊎◌, List, [], ◌∷◌, ◌++◌, map, sym, refl, ap, ◌∙◌, subst, inl, inr, arith, eqb-true}
+use Rattle.std.proofs.Common.{◌≡◌, ℕ, true, eqb, leb, List, [], ◌∷◌, ◌++◌, map, sym, refl, ap, ◌∙◌, subst, inl, inr, arith, eqb-true}
 use borrow.Author.Tests.{clash}
 use Rattle.std.specs.List.{AllByRecursion as All}
 use Rattle.std.proofs.lemmas.Bool.{and_parts, or_cases, leb-true}
-use Rattle.grammar.specs.Letters.{digit, small, capital, in_name, in_word, every, empty, name_spelled, word_spelled}
-use Rattle.sheets.specs.Lines.{Spelled, name, word, Line, rule, alias, filler, spelling, tabbed, kind, fields, written, Means, OneMeaning, well, Well}
-use Rattle.sheets.specs.inner.Fields.{other, Opens}
+use Rattle.grammar.specs.Letters.{digit, small, capital, in_name, in_word, every, name_spelled, word_spelled}
+use Rattle.sheets.specs.Lines.{Spelled, name, word, Line, rule, alias, filler, spelling, tabbed, kind, fields, OneMeaning, well, Well}
+use Rattle.sheets.specs.inner.Fields.{other}
 use Rattle.sheets.proofs.Cuts.{cut_once}
 use Rattle.sheets.proofs.Reading.{no_tab_weight, no_tab_name, no_tab_word, no_tab_symbol, opens_tabbed, kind_free}
 

@@ -1,11 +1,9 @@
 -- The fields of a line are found by cutting it at its tabs.
-use Rattle.std.proofs.Common.{◌≡◌, ℕ, zero, suc, ◌+◌, ◌-◌, ◌*◌, ◌<◌, ◌≤◌, Bool, true, false, cond, not, ◌&&◌, ◌||◌, eqb, leb, ◌⊎◌, List, [], ◌∷◌, ◌++◌, map, length, sym, refl, ap, ◌∙◌, subst, inl, inr, arith, eqb-true}
+use Rattle.std.proofs.Common.{◌≡◌, ℕ, suc, Bool, true, false, not, ◌&&◌, eqb, List, [], ◌∷◌, ◌++◌, map, length, sym, refl, ap, ◌∙◌, subst, inl, inr, arith, eqb-true}
 use borrow.Author.Tests.{clash}
-use Rattle.std.proofs.lemmas.List.{append-nil}
 use Rattle.std.proofs.lemmas.Bool.{and_parts, and_from, or_cases, or_left, or_right, cases_Bool, cond-true, cond-false}
-use Rattle.std.specs.List.{AllByRecursion as All}
 use Rattle.grammar.specs.Letters.{digit, small, capital, in_name, in_word, every, empty, name_spelled, word_spelled}
-use Rattle.sheets.specs.Lines.{Spelled, name, word, Line, rule, alias, filler, spelling, tabbed, kind, fields, written, Means, weight_spelled, well, Well}
+use Rattle.sheets.specs.Lines.{Spelled, name, word, Line, rule, alias, filler, spelling, tabbed, kind, fields, Means, weight_spelled, well}
 use Rattle.sheets.specs.inner.Fields.{other, Opens, Cut, Field, Fieldless, Holds, symbol_spelled, Symbols}
 use Rattle.sheets.proofs.Cuts.{cut_once, other_from}
 

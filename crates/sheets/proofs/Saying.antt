@@ -1,5 +1,5 @@
 -- What a draft holds, its sheet says.
-use Rattle.std.proofs.Common.{◌≡◌, ℕ, List, [], map, length, take, sym, refl, ap, ◌∙◌, subst}
+use Rattle.std.proofs.Common.{◌≡◌, ℕ, List, [], map, length, take, sym, ap, ◌∙◌, subst}
 use Rattle.grammar.specs.declared.draft.Draft.{Draft}
 use Rattle.grammar.specs.declared.sheet.Sheet.{Sheet}
 use Rattle.grammar.specs.Bits.{has}

@@ -117,7 +117,7 @@ fn codes(rt: HostRuntime) -> Result<(), Fail> {
     let sheet = sample();
     let (words, how) = drain(rt.alloc(), Codes::over(&sheet, &[0, 6, 7, 0]))?;
     assert_eq!(rt; how, Ending::Fault(10, 2, 2));
-    assert!(rt; words.as_slice() == &[(0, 0), (6, 1)]);
+    assert!(rt; words.as_slice() == [(0, 0), (6, 1)].as_slice());
     Ok(())
 }
 

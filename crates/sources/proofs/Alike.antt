@@ -1,9 +1,8 @@
 -- A filter that drops nothing. Assumes nothing.
-use Rattle.std.proofs.Common.{◌≡◌, Bool, true, cond, List, [], ◌∷◌, filter, sym, refl, ap, ◌∙◌, subst}
+use Rattle.std.proofs.Common.{◌≡◌, Bool, true, cond, List, [], ◌∷◌, filter, refl, ap, ◌∙◌, subst}
 use Rattle.std.specs.List.{AllByRecursion as All}
 use Rattle.std.proofs.ByRecursion.{kept_by_passes}
-use Rattle.sources.specs.declared.source.Heard.{Heard}
-use Rattle.sources.specs.Meanings.{Meaning, no_filler, without}
+use Rattle.sources.specs.Meanings.{no_filler}
 use Rattle.sources.specs.Laws.{FillersOnly}
 
 kept_all : {X : Type 0} (p : X → Bool) (xs : List X) → All (λ x. p x ≡ true) xs → filter p xs ≡ xs

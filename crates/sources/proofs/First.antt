@@ -1,12 +1,12 @@
 -- What an answer tells of the meaning that it is of. Assumes nothing.
-use Rattle.std.proofs.Common.{◌≡◌, ℕ, ◌-◌, min, ◌⊎◌, List, [], ◌∷◌, length, take, drop, IsErrAnd, Some, None, Ok, Err, Option, Result, sym, refl, ap, ◌∙◌, inl, inr, arith}
+use Rattle.std.proofs.Common.{◌≡◌, ℕ, ◌-◌, min, List, [], ◌∷◌, length, take, drop, IsErrAnd, Some, None, Ok, Err, Option, Result, sym, refl, ap, ◌∙◌, inl, inr, arith}
 use Rattle.std.proofs.lemmas.List.{take_all}
 use Rattle.std.proofs.lemmas.Bool.{cases_lt}
 use Rattle.std.proofs.lemmas.Result.{err_from_is_err_and}
 use Rattle.faults.specs.declared.Fault.{Fault}
 use Rattle.sources.specs.declared.source.Heard.{Heard}
 use Rattle.faults.specs.Faults.{Told, told, telling}
-use Rattle.sources.specs.Meanings.{Meaning, answered, past, opening}
+use Rattle.sources.specs.Meanings.{Meaning, answered, opening}
 
 abbrev meant : List Heard → Option Told → Meaning
 meant hs e = record { words = hs; ending = e }

@@ -1,5 +1,5 @@
 -- One call below, as the layer above passes it on. Assumes nothing.
-use Rattle.std.proofs.Common.{◌≡◌, ℕ, Bool, true, false, cond, not, List, [], ◌∷◌, drop, Some, None, Ok, Err, Option, Result, sym, refl, ap, ◌∙◌, subst}
+use Rattle.std.proofs.Common.{◌≡◌, ℕ, true, false, List, Some, None, Ok, Err, Option, Result, sym, refl, ap, ◌∙◌}
 use Rattle.grammar.specs.declared.Alias.{Alias}
 use Rattle.grammar.specs.Bits.{has}
 use Rattle.sources.specs.declared.source.Heard.{Heard}

@@ -1,12 +1,11 @@
 -- The runs of a message from the first space or byte on. Assumes nothing.
-use Rattle.std.proofs.Common.{◌≡◌, ℕ, suc, ◌+◌, ◌-◌, ◌<◌, ◌≤◌, Bool, true, false, cond, not, List, [], ◌∷◌, length, get_or, take, drop, Some, None, Ok, Err, sym, refl, ap, ◌∙◌, ⊎_elim, add-zero, one-add, arith, length-drop}
+use Rattle.std.proofs.Common.{◌≡◌, ℕ, suc, ◌+◌, ◌-◌, ◌<◌, ◌≤◌, Bool, true, false, cond, List, [], ◌∷◌, length, get_or, take, drop, Some, None, Ok, Err, sym, refl, ap, ◌∙◌, ⊎_elim, one-add, arith, length-drop}
 use Rattle.std.specs.List.{prefix_len}
 use Rattle.std.proofs.lemmas.List.{drop-drop, drop_more, drop_all, get_or-drop}
 use Rattle.std.proofs.lemmas.List.Sums.{prefix_len-le-length}
 use Rattle.std.proofs.lemmas.Bool.{cases_Bool}
 use Rattle.faults.specs.Faults.{Told}
-use Rattle.sources.specs.Meanings.{Meaning}
-use Rattle.sources.specs.Messages.{space, other, Run, runs, verdict, worded, spoken}
+use Rattle.sources.specs.Messages.{space, other, runs, verdict, worded, spoken}
 use Rattle.sources.proofs.Layers.{Takes}
 use Rattle.sources.proofs.Bytes.{takes_end, takes_fault, takes_word}
 

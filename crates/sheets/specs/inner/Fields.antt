@@ -1,5 +1,5 @@
 -- Bytes cut at a byte. Assumes nothing.
-use Rattle.std.specs.Prelude.{◌≡◌, ℕ, ◌+◌, ◌-◌, ◌*◌, Bool, true, not, ◌||◌, List, [], ◌∷◌, ◌++◌, map, ◌==◌}
+use Rattle.std.specs.Prelude.{◌≡◌, ℕ, Bool, true, not, ◌||◌, List, [], ◌∷◌, ◌++◌, map, ◌==◌}
 use Rattle.std.specs.List.{AllByRecursion as All}
 use Rattle.grammar.specs.Letters.{every, name_spelled, word_spelled}
 use Rattle.sheets.specs.Lines.{Spelled, Line, spelling, well, Well, fields, tabbed}

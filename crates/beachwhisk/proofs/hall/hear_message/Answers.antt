@@ -1,6 +1,5 @@
-use Rattle.std.proofs.Common.{◌≡◌, Err, refl, ap, subst}
+use Rattle.std.proofs.Common.{Err, refl, ap, subst}
 use Rattle.faults.specs.Faults.{told, telling}
-use Rattle.sources.specs.Piles.{piled}
 use Rattle.sources.specs.Values.{pile_means}
 use Rattle.seats.specs.Standing.{hear_at}
 use Rattle.seats.specs.Calls.{Anew, Keeps}

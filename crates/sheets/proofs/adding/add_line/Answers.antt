@@ -1,4 +1,4 @@
-use Rattle.std.proofs.Common.{◌≡◌, sym, subst}
+use Rattle.std.proofs.Common.{subst}
 use Rattle.sheets.specs.Lines.{rule, alias, filler}
 use Rattle.sheets.specs.inner.Parses.{Tells}
 use Rattle.sheets.specs.inner.Drafting.{Outcome}

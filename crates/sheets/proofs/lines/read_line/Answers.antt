@@ -1,4 +1,4 @@
-use Rattle.std.proofs.Common.{◌≡◌, ℕ, List, sym, ◌∙◌}
+use Rattle.std.proofs.Common.{◌≡◌, ℕ, List}
 use Rattle.sheets.specs.declared.lines.Kind.{Kind}
 use Rattle.sheets.specs.declared.lines.Kind.TheVariants as key
 use Rattle.sheets.specs.Lines.{Line, rule, alias, filler, Means}

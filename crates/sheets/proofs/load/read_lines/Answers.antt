@@ -1,4 +1,4 @@
-use Rattle.std.proofs.Common.{◌≡◌, suc, ◌+◌, ◌<◌, ◌≤◌, [], ◌∷◌, ◌++◌, length, sym, refl, ap, ◌∙◌, subst, arith, length-append, rules}
+use Rattle.std.proofs.Common.{◌≡◌, suc, ◌+◌, ◌<◌, [], ◌∷◌, ◌++◌, length, sym, refl, subst, arith, length-append, rules}
 use Rattle.std.proofs.ByRecursion.{All-push}
 use Rattle.sheets.specs.Lines.{Well}
 use Rattle.faults.specs.declared.Refusal.TheVariants.{LineShape}

@@ -1,4 +1,4 @@
-use Rattle.std.proofs.Common.{◌≡◌, ◌<◌, ◌≤◌, sym, subst, arith}
+use Rattle.std.proofs.Common.{arith}
 use Rattle.sheets.proofs.Interning.{interned_old, interned_new, crowded, short_front}
 use Rattle.sheets.proofs.spellings.intern.Goals as goal
 

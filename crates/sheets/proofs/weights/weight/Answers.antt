@@ -1,7 +1,7 @@
-use Rattle.std.proofs.Common.{◌≡◌, ◌+◌, ◌-◌, ◌*◌, ◌<◌, ◌≤◌, length, get_or, drop, sym, ◌∙◌, arith}
+use Rattle.std.proofs.Common.{◌+◌, ◌-◌, ◌*◌, get_or, drop, sym, ◌∙◌, arith}
 use Rattle.std.proofs.lemmas.List.{at_drop_all}
 use Rattle.grammar.specs.Letters.{digit}
-use Rattle.sheets.specs.Limits.{number, number_after}
+use Rattle.sheets.specs.Limits.{number_after}
 use Rattle.sheets.proofs.Cuts.{every_at, digit_least, number_after_le, number_more}
 use Rattle.sheets.proofs.weights.weight.Goals as goal
 

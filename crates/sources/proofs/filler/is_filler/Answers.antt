@@ -1,4 +1,4 @@
-use Rattle.std.proofs.Common.{◌≡◌, ◌/◌, ◌^◌, ◌<◌, eqb, sym, refl, ap, ◌∙◌, arith, rules, le-ltb}
+use Rattle.std.proofs.Common.{◌/◌, ◌^◌, eqb, sym, ap, ◌∙◌, rules, le-ltb}
 use Rattle.grammar.proofs.BitSets.{and_one, has_beyond}
 use Rattle.sources.proofs.filler.is_filler.Goals as goal
 

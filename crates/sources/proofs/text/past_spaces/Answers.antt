@@ -1,4 +1,4 @@
-use Rattle.std.proofs.Common.{◌+◌, not, get_or, drop, ap}
+use Rattle.std.proofs.Common.{◌+◌, get_or, drop}
 use Rattle.std.specs.List.{prefix_len}
 use Rattle.std.proofs.lemmas.Bool.{eq-eqb, ne_eqb}
 use Rattle.sources.specs.Messages.{space}

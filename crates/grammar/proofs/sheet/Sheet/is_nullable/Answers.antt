@@ -1,4 +1,4 @@
-use Rattle.std.proofs.Common.{◌≡◌, ◌^◌, ◌<◌, true, arith, rules, ltb-true, lt-ltb}
+use Rattle.std.proofs.Common.{◌^◌, ◌<◌, arith, rules, ltb-true, lt-ltb}
 use Rattle.grammar.proofs.BitSets.{has_below}
 use Rattle.grammar.proofs.sheet.Sheet.is_nullable.Goals as goal
 
