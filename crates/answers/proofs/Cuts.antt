@@ -1,6 +1,6 @@
 -- Bytes cut at ends of lines, in one way at most.
 use Rattle.std.proofs.Common.{◌≡◌, ℕ, ◌+◌, ◌<◌, List, [], ◌∷◌, ◌++◌, length, get_or, take, drop, sym, refl, ap, ◌∙◌, append_assoc, arith}
-use Rattle.std.specs.List.{AllByRecursion as All}
+use Rattle.std.specs.List.{AllByRecursion}
 use Rattle.std.proofs.lemmas.List.{drop_more, take-append-drop}
 use Rattle.answers.specs.Input.{Unended, FullLine, ended}
 
@@ -30,7 +30,7 @@ no_end [] bs (c ∷ part) u e = let h : c ≡ 10 = cc in u.0 h
 no_end (b ∷ l) bs (c ∷ part) u e = let tails : l ++ (10 ∷ bs) ≡ part = cc in no_end l bs part u.1 tails
 
 -- lines with their ends and what stands after them are one cut
-pub lines_once : (ls ks : List (List ℕ)) (x y : List ℕ) → All Unended ls → All Unended ks → Unended x → Unended y → ended ls ++ x ≡ ended ks ++ y → (ls ≡ ks) × (x ≡ y)
+pub lines_once : (ls ks : List (List ℕ)) (x y : List ℕ) → AllByRecursion Unended ls → AllByRecursion Unended ks → Unended x → Unended y → ended ls ++ x ≡ ended ks ++ y → (ls ≡ ks) × (x ≡ y)
 lines_once [] [] x y all all' u v e = (refl, e)
 lines_once [] (k ∷ ks) x y all all' u v e = absurd (no_end k (ended ks ++ y) x u (sym (e ∙ append_assoc k (10 ∷ ended ks) y)))
 lines_once (l ∷ ls) [] x y all all' u v e = absurd (no_end l (ended ls ++ x) y v (sym (append_assoc l (10 ∷ ended ls) x) ∙ e))
@@ -40,7 +40,7 @@ lines_once (l ∷ ls) (k ∷ ks) x y all all' u v e =
     (let p = first.0 in let q = below.0 in cc, below.1)
 
 -- an empty line after full lines stands at one place
-pub empty_once : (ls ks : List (List ℕ)) (bs cs : List ℕ) → All FullLine ls → All FullLine ks → ended ls ++ (10 ∷ bs) ≡ ended ks ++ (10 ∷ cs) → (ls ≡ ks) × (bs ≡ cs)
+pub empty_once : (ls ks : List (List ℕ)) (bs cs : List ℕ) → AllByRecursion FullLine ls → AllByRecursion FullLine ks → ended ls ++ (10 ∷ bs) ≡ ended ks ++ (10 ∷ cs) → (ls ≡ ks) × (bs ≡ cs)
 empty_once [] [] bs cs all all' e = (refl, cc)
 empty_once [] (k ∷ ks) bs cs all all' e =
     absurd (all'.0.1 (sym (line_once [] bs k (ended ks ++ (10 ∷ cs)) tt all'.0.0 (e ∙ append_assoc k (10 ∷ ended ks) (10 ∷ cs))).0))
@@ -52,7 +52,7 @@ empty_once (l ∷ ls) (k ∷ ks) bs cs all all' e =
     (let p = first.0 in let q = below.0 in cc, below.1)
 
 -- full lines and the start of one hold no empty line
-pub empty_none : (ls ks : List (List ℕ)) (bs y : List ℕ) → All FullLine ls → All FullLine ks → Unended y → ended ls ++ (10 ∷ bs) ≡ ended ks ++ y → ⊥
+pub empty_none : (ls ks : List (List ℕ)) (bs y : List ℕ) → AllByRecursion FullLine ls → AllByRecursion FullLine ks → Unended y → ended ls ++ (10 ∷ bs) ≡ ended ks ++ y → ⊥
 empty_none [] [] bs y all all' u e = no_end [] bs y u e
 empty_none [] (k ∷ ks) bs y all all' u e =
     all'.0.1 (sym (line_once [] bs k (ended ks ++ y) tt all'.0.0 (e ∙ append_assoc k (10 ∷ ended ks) y)).0)

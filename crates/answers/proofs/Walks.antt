@@ -1,6 +1,6 @@
 -- The lines of a front of the input, up to the first empty line.
 use Rattle.std.proofs.Common.{◌≡◌, ℕ, ◌+◌, ◌<◌, ◌≤◌, Bool, true, false, eqb, ◌⊎◌, List, [], ◌∷◌, ◌++◌, length, get_or, take, drop, sym, refl, ap, ◌∙◌, subst, inl, inr, append_assoc, append-nil, arith, eq-eqb, ne_eqb}
-use Rattle.std.specs.List.{AllByRecursion as All}
+use Rattle.std.specs.List.{AllByRecursion}
 use Rattle.std.proofs.lemmas.List.{take_more, take_all, drop_all}
 use Rattle.std.proofs.ByRecursion.{All-push}
 use Rattle.answers.proofs.Cuts.{more_not_nil, parted_at}
@@ -10,7 +10,7 @@ use Rattle.answers.specs.Input.{Unended, FullLine, ended, Split, at_empty_line, 
 pub record Walked (front : List ℕ) (fresh : Bool) : Type 0 where
   pub full : List (List ℕ)
   pub last : List ℕ
-  pub all_full : All FullLine full
+  pub all_full : AllByRecursion FullLine full
   pub unended : Unended last
   pub is : front ≡ ended full ++ last
   pub at_start : fresh ≡ true → last ≡ []

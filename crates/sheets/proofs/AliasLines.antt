@@ -1,7 +1,7 @@
 -- An alias line more.
 use Rattle.std.proofs.Common.{◌≡◌, ℕ, ◌+◌, ◌-◌, ◌<◌, ◌≤◌, Bool, true, false, ◌||◌, eqb, List, [], ◌∷◌, ◌++◌, map, length, get_or, take, drop, sym, refl, ap, ◌∙◌, inl, inr, add-zero, arith}
 use borrow.Author.Tests.{clash}
-use Rattle.std.specs.List.{AllByRecursion as All}
+use Rattle.std.specs.List.{AllByRecursion}
 use Rattle.std.specs.Str.{bytes_eq}
 use Rattle.std.proofs.lemmas.Slice.Eq.{bytes_eq-Decides}
 use Rattle.std.proofs.lemmas.List.{append-nil, map_push, at_drop_more, at_drop_all}
@@ -58,7 +58,7 @@ module _ (W : List (List ℕ)) (s : List ℕ) (k : ℕ) (apart : Apart W) (below
     ]
   ]
 
-  said_all : (aliases : List Alias) → All (λ a. (a.said < length W) × (a.meant < length W)) aliases → member s (said_of (map (renaming W) aliases)) ≡ said_among k aliases
+  said_all : (aliases : List Alias) → AllByRecursion (λ a. (a.said < length W) × (a.meant < length W)) aliases → member s (said_of (map (renaming W) aliases)) ≡ said_among k aliases
   said_all [] h = refl
   said_all (a ∷ rest) h = let p = said_one a.said h.0.0 in let q = said_all rest h.1 in cc
 

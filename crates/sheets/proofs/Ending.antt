@@ -1,6 +1,6 @@
 -- A line ends at the first end of line.
 use Rattle.std.proofs.Common.{◌≡◌, ℕ, ◌-◌, ◌<◌, true, List, [], ◌∷◌, ◌++◌, map, length, take, drop, sym, refl, ap, ◌∙◌, arith}
-use Rattle.std.specs.List.{AllByRecursion as All}
+use Rattle.std.specs.List.{AllByRecursion}
 use Rattle.grammar.specs.Letters.{digit, every}
 use Rattle.sheets.specs.Lines.{Spelled, Line, rule, alias, filler, spelling, tabbed, kind, fields, written, Means, weight_spelled, well, Well}
 use Rattle.sheets.specs.inner.Fields.{other, Opens, Cut}
@@ -10,18 +10,18 @@ use Rattle.sheets.proofs.Reading.{every_weaker, apart, digits_of, free_word, fre
 abbrev Unended : List ℕ → Type 0
 Unended cs = every (other 10) cs ≡ true
 
-unended_tabbed : (fs : List (List ℕ)) → All Unended fs → Unended (tabbed fs)
+unended_tabbed : (fs : List (List ℕ)) → AllByRecursion Unended fs → Unended (tabbed fs)
 unended_tabbed [] h = refl
 unended_tabbed (f ∷ fs) h = every_append (other 10) f (tabbed fs) h.0 (unended_tabbed fs h.1)
 
-unended_symbols : (ss : List Spelled) → All (λ s. well s ≡ true) ss → All Unended (map spelling ss)
+unended_symbols : (ss : List Spelled) → AllByRecursion (λ s. well s ≡ true) ss → AllByRecursion Unended (map spelling ss)
 unended_symbols [] h = tt
 unended_symbols (s ∷ ss) h = (free_symbol 10 refl refl s h.0, unended_symbols ss h.1)
 
 unended_weight : (cs : List ℕ) → weight_spelled cs ≡ true → Unended cs
 unended_weight cs h = every_weaker digit (other 10) (apart 10 refl refl digit refl) cs (digits_of cs h)
 
-unended_fields : (ℓ : Line) → Well ℓ → All Unended (fields ℓ)
+unended_fields : (ℓ : Line) → Well ℓ → AllByRecursion Unended (fields ℓ)
 unended_fields (rule w a ss) h = (unended_weight w h.0, (free_name 10 refl refl a h.1, unended_symbols ss h.2))
 unended_fields (alias s m) h = (free_word 10 refl refl s h.0, (free_word 10 refl refl m h.1, tt))
 unended_fields (filler w) h = (free_word 10 refl refl w h, tt)

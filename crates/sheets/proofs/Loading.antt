@@ -1,6 +1,6 @@
 -- One line more of a text.
 use Rattle.std.proofs.Common.{◌≡◌, ℕ, suc, ◌<◌, ◌≤◌, ◌⊎◌, List, [], ◌∷◌, ◌++◌, length, Err, sym, refl, ap, ◌∙◌, subst, inl, inr, arith, length-append}
-use Rattle.std.specs.List.{AllByRecursion as All}
+use Rattle.std.specs.List.{AllByRecursion}
 use Rattle.std.proofs.lemmas.List.{append_assoc, append-nil}
 use Rattle.sheets.specs.declared.lines.Parsed.{Parsed}
 use Rattle.sheets.specs.declared.lines.Parsed.TheVariants.{Rule, Alias, Filler}
@@ -9,7 +9,7 @@ use Rattle.sheets.specs.inner.Parses.{Tells}
 use Rattle.sheets.specs.Limits.{Within, Second, Accepted}
 use Rattle.grammar.specs.declared.draft.Draft.{Draft}
 use Rattle.sheets.specs.declared.refusals.Bar.{Bar}
-use Rattle.sheets.specs.declared.refusals.Bar.TheVariants.{Limit, Second as Second-alias}
+use Rattle.sheets.specs.declared.refusals.Bar.TheVariants.{Limit, Second as SecondBar}
 use Rattle.sheets.specs.Texts.{ended, Refuses}
 use Rattle.sheets.specs.inner.Drafting.{Outcome, refusal_of}
 
@@ -69,7 +69,7 @@ pub text_all : (text rest : List ℕ) (ls : List Line) → text ≡ ended ls ++ 
 text_all text rest ls e f = e ∙ ap (λ t. ended ls ++ t) f ∙ append-nil (ended ls)
 
 -- a line that is refused refuses the text
-pub barred : (text rest after : List ℕ) (before : List Line) (ℓ : Line) (bar : Bar) (d : Draft) (n : ℕ) → length text ≤ 16384 → text ≡ ended before ++ rest → All Well before → Accepted before
+pub barred : (text rest after : List ℕ) (before : List Line) (ℓ : Line) (bar : Bar) (d : Draft) (n : ℕ) → length text ≤ 16384 → text ≡ ended before ++ rest → AllByRecursion Well before → Accepted before
     → rest ≡ written ℓ ++ (10 ∷ after) → Well ℓ → n ≡ suc (length before) → Outcome before ℓ (Err bar) d → Refuses text (refusal_of bar) n
 barred text rest after before ℓ Limit d n fits e wells all f well is out = (fits, (before, rest, e, wells, all, (ℓ, after, f, well, out), is))
-barred text rest after before ℓ Second-alias d n fits e wells all f well is out = (fits, (before, rest, e, wells, all, (ℓ, after, f, well, out.0, out.1), is))
+barred text rest after before ℓ SecondBar d n fits e wells all f well is out = (fits, (before, rest, e, wells, all, (ℓ, after, f, well, out.0, out.1), is))

@@ -1,6 +1,6 @@
 -- Spellings of which no two are alike have one number each.
 use Rattle.std.proofs.Common.{◌≡◌, ℕ, ◌<◌, List, [], ◌∷◌, map, length, get_or, sym, refl, ap, ◌∙◌, subst, arith, length-take, get_or-take}
-use Rattle.std.specs.List.{AllByRecursion as All}
+use Rattle.std.specs.List.{AllByRecursion}
 use Rattle.std.proofs.ByRecursion.{All-from_get_or}
 use Rattle.grammar.specs.declared.Symbol.{Symbol}
 use Rattle.grammar.specs.declared.Symbol.TheVariants.{Name, Word}
@@ -17,7 +17,7 @@ use Rattle.sheets.proofs.Pushing.{apart_names, apart_words}
 
 -- the left name and the right side of a rule are listed
 abbrev Listed : ℕ → ℕ → Rule → Type 0
-Listed names words p = (p.left < names) × All (Counted names words) (right p)
+Listed names words p = (p.left < names) × AllByRecursion (Counted names words) (right p)
 
 listed_from : (names words : ℕ) (p : Rule) → Formed names words p → Listed names words p
 listed_from names words p f = (
@@ -28,7 +28,7 @@ listed_from names words p f = (
       subst (Counted names words) (sym (get_or-take p.len p.symbols k (Name 0) below)) (f.2 k below)),
 )
 
-all_listed : (names words : ℕ) (rules : List Rule) → AllFormed names words rules → All (Listed names words) rules
+all_listed : (names words : ℕ) (rules : List Rule) → AllFormed names words rules → AllByRecursion (Listed names words) rules
 all_listed names words rules formed = All-from_get_or (Listed names words) rules no_rule (λ r h. listed_from names words (get_or rules r no_rule) (formed r h))
 
 module _ (N W : List (List ℕ)) (apart-n : Apart N) (apart-w : Apart W) where
@@ -38,7 +38,7 @@ module _ (N W : List (List ℕ)) (apart-n : Apart N) (apart-w : Apart W) where
   symbol_once (Word a) (Name b) h k e = let z : ◌≡◌ {A = ℕ} 0 1 = cc in absurd (omega arith)
   symbol_once (Word a) (Word b) h k e = let same : get_or W a [] ≡ get_or W b [] = cc in ap Word (apart-w a b h k same)
 
-  symbols_once : (ss ts : List Symbol) → All (Counted (length N) (length W)) ss → All (Counted (length N) (length W)) ts
+  symbols_once : (ss ts : List Symbol) → AllByRecursion (Counted (length N) (length W)) ss → AllByRecursion (Counted (length N) (length W)) ts
       → map (spelled N W) ss ≡ map (spelled N W) ts → ss ≡ ts
   symbols_once [] [] h k e = refl
   symbols_once [] (t ∷ ts) h k e = let z : ◌≡◌ {A = ℕ} 0 1 = cc in absurd (omega arith)
@@ -57,7 +57,7 @@ module _ (N W : List (List ℕ)) (apart-n : Apart N) (apart-w : Apart W) where
       let rights : right p ≡ right q = symbols_once (right p) (right q) h.1 k.1 (ap (λ x. x.right) e) in
       cc
 
-  pub rules_once : (ps qs : List Rule) → All (Listed (length N) (length W)) ps → All (Listed (length N) (length W)) qs
+  pub rules_once : (ps qs : List Rule) → AllByRecursion (Listed (length N) (length W)) ps → AllByRecursion (Listed (length N) (length W)) qs
       → map (production N W) ps ≡ map (production N W) qs → map plain ps ≡ map plain qs
   rules_once [] [] h k e = refl
   rules_once [] (q ∷ qs) h k e = let z : ◌≡◌ {A = ℕ} 0 1 = cc in absurd (omega arith)
@@ -78,7 +78,7 @@ module _ (W : List (List ℕ)) (apart : Apart W) where
       let of : ℕ → ℕ → Alias = λ s m. record { said = s; meant = m } in
       ap (λ x. of x a.meant) said ∙ ap (of b.said) meant
 
-  pub aliases_once : (as' bs : List Alias) → All (λ a. (a.said < length W) × (a.meant < length W)) as' → All (λ a. (a.said < length W) × (a.meant < length W)) bs
+  pub aliases_once : (as' bs : List Alias) → AllByRecursion (λ a. (a.said < length W) × (a.meant < length W)) as' → AllByRecursion (λ a. (a.said < length W) × (a.meant < length W)) bs
       → map (renaming W) as' ≡ map (renaming W) bs → as' ≡ bs
   aliases_once [] [] h k e = refl
   aliases_once [] (b ∷ bs) h k e = let z : ◌≡◌ {A = ℕ} 0 1 = cc in absurd (omega arith)

@@ -1,7 +1,7 @@
 -- Bytes mean one line at most.
 use Rattle.std.proofs.Common.{◌≡◌, ℕ, true, eqb, leb, List, [], ◌∷◌, ◌++◌, map, sym, refl, ap, ◌∙◌, subst, inl, inr, arith, eqb-true}
 use borrow.Author.Tests.{clash}
-use Rattle.std.specs.List.{AllByRecursion as All}
+use Rattle.std.specs.List.{AllByRecursion}
 use Rattle.std.proofs.lemmas.Bool.{and_parts, or_cases, leb-true}
 use Rattle.grammar.specs.Letters.{digit, small, capital, in_name, in_word, every, name_spelled, word_spelled}
 use Rattle.sheets.specs.Lines.{Spelled, name, word, Line, rule, alias, filler, spelling, tabbed, kind, fields, OneMeaning, well, Well}
@@ -12,16 +12,16 @@ use Rattle.sheets.proofs.Reading.{no_tab_weight, no_tab_name, no_tab_word, no_ta
 abbrev Untabbed : List ℕ → Type 0
 Untabbed cs = every (other 9) cs ≡ true
 
-untabbed_symbols : (ss : List Spelled) → All (λ s. well s ≡ true) ss → All Untabbed (map spelling ss)
+untabbed_symbols : (ss : List Spelled) → AllByRecursion (λ s. well s ≡ true) ss → AllByRecursion Untabbed (map spelling ss)
 untabbed_symbols [] h = tt
 untabbed_symbols (s ∷ ss) h = (no_tab_symbol s h.0, untabbed_symbols ss h.1)
 
-untabbed_fields : (ℓ : Line) → Well ℓ → All Untabbed (fields ℓ)
+untabbed_fields : (ℓ : Line) → Well ℓ → AllByRecursion Untabbed (fields ℓ)
 untabbed_fields (rule w a ss) h = (no_tab_weight w h.0, (no_tab_name a h.1, untabbed_symbols ss h.2))
 untabbed_fields (alias s m) h = (no_tab_word s h.0, (no_tab_word m h.1, tt))
 untabbed_fields (filler w) h = (no_tab_word w h, tt)
 
-tabbed_once : (fs gs : List (List ℕ)) → All Untabbed fs → All Untabbed gs → tabbed fs ≡ tabbed gs → fs ≡ gs
+tabbed_once : (fs gs : List (List ℕ)) → AllByRecursion Untabbed fs → AllByRecursion Untabbed gs → tabbed fs ≡ tabbed gs → fs ≡ gs
 tabbed_once [] [] h k e = refl
 tabbed_once [] (g ∷ gs) h k e = let z : ◌≡◌ {A = ℕ} 0 1 = cc in absurd (omega arith)
 tabbed_once (f ∷ fs) [] h k e = let z : ◌≡◌ {A = ℕ} 0 1 = cc in absurd (omega arith)
@@ -56,7 +56,7 @@ symbol_once (name s) (word t) h k e = absurd (name_no_word s h (subst (λ x. wor
 symbol_once (word s) (name t) h k e = absurd (name_no_word t k (subst (λ x. word_spelled x ≡ true) e h))
 symbol_once (word s) (word t) h k e = ap word e
 
-symbols_once : (ss ts : List Spelled) → All (λ s. well s ≡ true) ss → All (λ s. well s ≡ true) ts → map spelling ss ≡ map spelling ts → ss ≡ ts
+symbols_once : (ss ts : List Spelled) → AllByRecursion (λ s. well s ≡ true) ss → AllByRecursion (λ s. well s ≡ true) ts → map spelling ss ≡ map spelling ts → ss ≡ ts
 symbols_once [] [] h k e = refl
 symbols_once [] (t ∷ ts) h k e = let z : ◌≡◌ {A = ℕ} 0 1 = cc in absurd (omega arith)
 symbols_once (s ∷ ss) [] h k e = let z : ◌≡◌ {A = ℕ} 0 1 = cc in absurd (omega arith)

@@ -1,6 +1,6 @@
 -- A text means one sheet at most.
 use Rattle.std.proofs.Common.{◌≡◌, ◌^◌, ◌<◌, List, length, sym, ap, ◌∙◌, subst}
-use Rattle.std.specs.List.{AllByRecursion as All}
+use Rattle.std.specs.List.{AllByRecursion}
 use Rattle.grammar.specs.declared.sheet.Sheet.{Sheet}
 use Rattle.grammar.specs.View.{aliases_in, Alike}
 use Rattle.grammar.proofs.BitSets.{same_set}
@@ -18,9 +18,9 @@ module _ (ls : List Line) (s : Sheet) (says : Says ls s) where
   word_total : s.word_count ≡ length (words_of ls)
   word_total = sym (words_whole s) ∙ ap length says.words
 
-  listed_aliases : All (λ a. (a.said < length (words_of ls)) × (a.meant < length (words_of ls))) (aliases_in s)
+  listed_aliases : AllByRecursion (λ a. (a.said < length (words_of ls)) × (a.meant < length (words_of ls))) (aliases_in s)
   listed_aliases =
-      subst (λ n. All (λ a. (a.said < n) × (a.meant < n)) (aliases_in s)) word_total
+      subst (λ n. AllByRecursion (λ a. (a.said < n) × (a.meant < n)) (aliases_in s)) word_total
       (all_aliased s.word_count s.alias_count s.aliases s.aliased)
 
   listed_fillers : s.fillers < 2 ^ length (words_of ls)

@@ -1,6 +1,6 @@
 -- A text has one list of lines: of two that begin it, one goes on from the other.
 use Rattle.std.proofs.Common.{◌≡◌, ℕ, ◌⊎◌, List, [], ◌∷◌, ◌++◌, length, sym, refl, ap, ◌∙◌, inl, inr, arith, length-append}
-use Rattle.std.specs.List.{AllByRecursion as All}
+use Rattle.std.specs.List.{AllByRecursion}
 use Rattle.std.proofs.lemmas.List.{append_assoc, append-nil}
 use Rattle.sheets.specs.Lines.{Line, written, Well}
 use Rattle.sheets.specs.Texts.{ended, Ordered}
@@ -34,7 +34,7 @@ longer_more ℓ m ls ms rest e l = record {
   well = l.well;
 }
 
-pub compared : (ls ms : List Line) (rest rest' : List ℕ) → All Well ls → All Well ms → ended ls ++ rest ≡ ended ms ++ rest'
+pub compared : (ls ms : List Line) (rest rest' : List ℕ) → AllByRecursion Well ls → AllByRecursion Well ms → ended ls ++ rest ≡ ended ms ++ rest'
     → ((ls ≡ ms) × (rest ≡ rest')) ⊎ (Longer ls rest ms ⊎ Longer ms rest' ls)
 compared [] [] rest rest' h k e = inl (refl, e)
 compared [] (m ∷ ms) rest rest' h k e =

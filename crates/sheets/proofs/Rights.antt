@@ -1,6 +1,6 @@
 -- The symbols of a rule line, one after the other.
 use Rattle.std.proofs.Common.{◌≡◌, ℕ, ◌+◌, ◌<◌, ◌≤◌, true, List, [], ◌∷◌, ◌++◌, map, length, set, sym, refl, ap, ◌∙◌, subst, inl, inr, arith}
-use Rattle.std.specs.List.{AllByRecursion as All}
+use Rattle.std.specs.List.{AllByRecursion}
 use Rattle.std.proofs.lemmas.List.{append_assoc, append-nil, length-append, length-map, length-take, map_push, take_more_set}
 use Rattle.std.proofs.ByRecursion.{All-push}
 use Rattle.grammar.specs.declared.Symbol.{Symbol}
@@ -28,8 +28,8 @@ pub record Partly (before : List Line) (N W : List (List ℕ)) (ss : List Spelle
   pub words : with_all W₁ (words_among rest) ≡ with_all W (words_among ss)
   pub spells : map (spelled N₁ W₁) (right p) ++ rest ≡ ss
   pub unread : bytes ≡ tabbed (map spelling rest)
-  pub all_well : All (λ s. well s ≡ true) rest
-  pub short : All (λ s. Short (spelling s)) (map (spelled N₁ W₁) (right p))
+  pub all_well : AllByRecursion (λ s. well s ≡ true) rest
+  pub short : AllByRecursion (λ s. Short (spelling s)) (map (spelled N₁ W₁) (right p))
 
 abbrev pub Midway : List Line → List (List ℕ) → List (List ℕ) → List Spelled → List ℕ → Draft → Rule → Type 0
 Midway before N W ss bytes d p = (N₁ W₁ : List (List ℕ)) × (rest : List Spelled) × Partly before N W ss bytes d p N₁ W₁ rest
@@ -76,14 +76,14 @@ words_step : (W : List (List ℕ)) (s : Spelled) (rest : List Spelled) → with_
 words_step W (name t) rest = refl
 words_step W (word t) rest = refl
 
-middle : {A : Type 0} (P : A → Type 0) (xs : List A) (y : A) (ys : List A) → All P (xs ++ (y ∷ ys)) → P y
+middle : {A : Type 0} (P : A → Type 0) (xs : List A) (y : A) (ys : List A) → AllByRecursion P (xs ++ (y ∷ ys)) → P y
 middle P [] y ys h = h.0
 middle P (x ∷ xs) y ys h = middle P xs y ys h.1
 
-pub midway_start : (before : List Line) (N W : List (List ℕ)) (ss : List Spelled) (bytes : List ℕ) (d : Draft) (p : Rule) → Holding before N W d → bytes ≡ tabbed (map spelling ss) → All (λ s. well s ≡ true) ss → right p ≡ []
+pub midway_start : (before : List Line) (N W : List (List ℕ)) (ss : List Spelled) (bytes : List ℕ) (d : Draft) (p : Rule) → Holding before N W d → bytes ≡ tabbed (map spelling ss) → AllByRecursion (λ s. well s ≡ true) ss → right p ≡ []
     → Midway before N W ss bytes d p
 midway_start before N W ss bytes d p h e all none =
-    (N, W, ss, record { held = h; names = refl; words = refl; spells = ap (λ ks. map (spelled N W) ks ++ ss) none; unread = e; all_well = all; short = subst (λ ks. All (λ s. Short (spelling s)) (map (spelled N W) ks)) (sym none) tt })
+    (N, W, ss, record { held = h; names = refl; words = refl; spells = ap (λ ks. map (spelled N W) ks ++ ss) none; unread = e; all_well = all; short = subst (λ ks. AllByRecursion (λ s. Short (spelling s)) (map (spelled N W) ks)) (sym none) tt })
 
 module _ (before : List Line) (N W : List (List ℕ)) (ss : List Spelled) (bytes : List ℕ) (d : Draft) (p : Rule) where
   -- a field more is the next symbol
@@ -100,9 +100,9 @@ module _ (before : List Line) (N W : List (List ℕ)) (ss : List Spelled) (bytes
       let ns = names_among (s ∷ []) in
       let ws = words_among (s ∷ []) in
       let spell = spelled (with_all N₁ ns) (with_all W₁ ws) in
-      let counted : All (Counted (length N₁) (length W₁)) (right p) =
-      subst (λ n. All (Counted n (length W₁)) (right p)) (sym h.name_total)
-      (subst (λ n. All (Counted d.name_count n) (right p)) (sym h.word_total) (right_counted d.name_count d.word_count p formed.2)) in
+      let counted : AllByRecursion (Counted (length N₁) (length W₁)) (right p) =
+      subst (λ n. AllByRecursion (Counted n (length W₁)) (right p)) (sym h.name_total)
+      (subst (λ n. AllByRecursion (Counted d.name_count n) (right p)) (sym h.word_total) (right_counted d.name_count d.word_count p formed.2)) in
       ap (map spell) (take_more_set p.symbols p.len k room)
       ∙ map_push spell (right p) k
       ∙ ap (λ ts. ts ++ (spell k ∷ [])) (symbols_stay N₁ W₁ ns ws (right p) counted)
@@ -126,7 +126,7 @@ module _ (before : List Line) (N W : List (List ℕ)) (ss : List Spelled) (bytes
           spells = ap (λ ts. ts ++ rest) grown ∙ append_assoc so (s ∷ []) rest ∙ h.spells;
           unread = first.1;
           all_well = h.all_well.1;
-          short = subst (All (λ t. Short (spelling t))) (sym grown) (All-push (λ t. Short (spelling t)) so s h.short done.2);
+          short = subst (AllByRecursion (λ t. Short (spelling t))) (sym grown) (All-push (λ t. Short (spelling t)) so s h.short done.2);
         },
       )
 
@@ -158,7 +158,7 @@ module _ (before : List Line) (N W : List (List ℕ)) (ss : List Spelled) (bytes
   midway_barred f r found bar (N₁, W₁, s ∷ rest, h) fits =
       let first = next f r N₁ W₁ s rest found h in
       barred_name N₁ W₁ s rest h.held h.all_well.0 (subst (Barred d) first.0 bar)
-      (middle (λ t. Short (spelling t)) (map (spelled N₁ W₁) (right p)) s rest (subst (All (λ t. Short (spelling t))) (sym h.spells) fits.short))
+      (middle (λ t. Short (spelling t)) (map (spelled N₁ W₁) (right p)) s rest (subst (AllByRecursion (λ t. Short (spelling t))) (sym h.spells) fits.short))
       (subst (λ ts. length ts ≤ 32) (sym h.names) fits.names) (subst (λ ts. length ts ≤ 64) (sym h.words) fits.words)
 
   -- no symbol is left
@@ -169,6 +169,6 @@ module _ (before : List Line) (N W : List (List ℕ)) (ss : List Spelled) (bytes
         held = subst (λ n. Holding before n (with_all W (words_among ss)) d) h.names (subst (λ w. Holding before N₁ w d) h.words h.held);
         spells = subst (λ n. map (spelled n (with_all W (words_among ss))) (right p) ≡ ss) h.names (subst (λ w. map (spelled N₁ w) (right p) ≡ ss) h.words spells);
         counted = sym (ap length spells) ∙ so_far N₁ W₁ eight few;
-        short = subst (All (λ t. Short (spelling t))) spells h.short;
+        short = subst (AllByRecursion (λ t. Short (spelling t))) spells h.short;
       }
   righted eight few none (N₁, W₁, s ∷ rest, h) = absurd (field_none bytes (spelling s) (map spelling rest) none h.unread)

@@ -1,6 +1,6 @@
 -- What is numbered is spelled as before when names and words are added.
 use Rattle.std.proofs.Common.{◌≡◌, ℕ, ◌<◌, List, [], ◌∷◌, map, length, get_or, take, sym, refl, ap, subst, arith}
-use Rattle.std.specs.List.{AllByRecursion as All}
+use Rattle.std.specs.List.{AllByRecursion}
 use Rattle.std.proofs.lemmas.List.{length-take, get_or-take}
 use Rattle.std.proofs.ByRecursion.{All-from_get_or}
 use Rattle.grammar.specs.declared.Symbol.{Symbol}
@@ -16,20 +16,20 @@ use Rattle.sheets.proofs.Grown.{still_at}
 
 -- what the invariant of a draft says of its rules and aliases
 module _ (names words : ℕ) where
-  pub right_counted : (p : Rule) → ((k : ℕ) → k < p.len → Counted names words (get_or p.symbols k (Name 0))) → All (Counted names words) (right p)
+  pub right_counted : (p : Rule) → ((k : ℕ) → k < p.len → Counted names words (get_or p.symbols k (Name 0))) → AllByRecursion (Counted names words) (right p)
   right_counted p h = All-from_get_or (Counted names words) (right p) (Name 0) (λ k l.
       let len = length-take p.len p.symbols in
       let below : k < p.len = omega arith in
       subst (Counted names words) (sym (get_or-take p.len p.symbols k (Name 0) below)) (h k below))
 
-  all_counted : (n : ℕ) (rules : List Rule) → Lefts names n rules → Rights names words n rules → All (λ p. (p.left < names) × All (Counted names words) (right p)) (take n rules)
+  all_counted : (n : ℕ) (rules : List Rule) → Lefts names n rules → Rights names words n rules → AllByRecursion (λ p. (p.left < names) × AllByRecursion (Counted names words) (right p)) (take n rules)
   all_counted n rules lefts rights = All-from_get_or _ (take n rules) no_rule (λ r l.
       let len = length-take n rules in
       let below : r < n = omega arith in
-      subst (λ p. (p.left < names) × All (Counted names words) (right p)) (sym (get_or-take n rules r no_rule below))
+      subst (λ p. (p.left < names) × AllByRecursion (Counted names words) (right p)) (sym (get_or-take n rules r no_rule below))
       (lefts r below, right_counted (get_or rules r no_rule) (λ k m. rights r k below m)))
 
-pub all_aliased : (words n : ℕ) (aliases : List Alias) → Aliased words n aliases → All (λ a. (a.said < words) × (a.meant < words)) (take n aliases)
+pub all_aliased : (words n : ℕ) (aliases : List Alias) → Aliased words n aliases → AllByRecursion (λ a. (a.said < words) × (a.meant < words)) (take n aliases)
 all_aliased words n aliases h = All-from_get_or _ (take n aliases) no_alias (λ r l.
     let len = length-take n aliases in
     let below : r < n = omega arith in
@@ -40,11 +40,11 @@ module _ (N W ns ws : List (List ℕ)) where
   symbol_stays (Name a) h = ap name (still_at N ns a h)
   symbol_stays (Word w) h = ap word (still_at W ws w h)
 
-  pub symbols_stay : (ss : List Symbol) → All (Counted (length N) (length W)) ss → map (spelled (with_all N ns) (with_all W ws)) ss ≡ map (spelled N W) ss
+  pub symbols_stay : (ss : List Symbol) → AllByRecursion (Counted (length N) (length W)) ss → map (spelled (with_all N ns) (with_all W ws)) ss ≡ map (spelled N W) ss
   symbols_stay [] h = refl
   symbols_stay (s ∷ ss) h = let a = symbol_stays s h.0 in let b = symbols_stay ss h.1 in cc
 
-  productions_stay : (ps : List Rule) → All (λ p. (p.left < length N) × All (Counted (length N) (length W)) (right p)) ps
+  productions_stay : (ps : List Rule) → AllByRecursion (λ p. (p.left < length N) × AllByRecursion (Counted (length N) (length W)) (right p)) ps
       → map (production (with_all N ns) (with_all W ws)) ps ≡ map (production N W) ps
   productions_stay [] h = refl
   productions_stay (p ∷ ps) h =
@@ -53,7 +53,7 @@ module _ (N W ns ws : List (List ℕ)) where
       let c = productions_stay ps h.1 in
       cc
 
-  renamings_stay : (aliases : List Alias) → All (λ a. (a.said < length W) × (a.meant < length W)) aliases → map (renaming (with_all W ws)) aliases ≡ map (renaming W) aliases
+  renamings_stay : (aliases : List Alias) → AllByRecursion (λ a. (a.said < length W) × (a.meant < length W)) aliases → map (renaming (with_all W ws)) aliases ≡ map (renaming W) aliases
   renamings_stay [] h = refl
   renamings_stay (a ∷ rest) h =
       let p = still_at W ws a.said h.0.0 in

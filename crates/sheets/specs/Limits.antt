@@ -1,6 +1,6 @@
 -- The limits of a sheet's lines. Assumes nothing.
 use Rattle.std.specs.Prelude.{◌≡◌, ℕ, suc, ◌+◌, ◌-◌, ◌*◌, ◌≤◌, true, List, [], ◌∷◌, ◌++◌, length}
-use Rattle.std.specs.List.{AllByRecursion as All}
+use Rattle.std.specs.List.{AllByRecursion}
 use Rattle.sheets.specs.Lines.{Spelled, Line, rule, alias, filler, spelling}
 use Rattle.sheets.specs.Spellings.{member, names_of, words_of}
 
@@ -59,7 +59,7 @@ Short s = length s ≤ 15
 
 -- the line by itself
 abbrev pub Small : Line → Type 0
-Small (rule w a ss) = (number w ≤ 65535) × Short a × All (λ s. Short (spelling s)) ss × (length ss ≤ 8)
+Small (rule w a ss) = (number w ≤ 65535) × Short a × AllByRecursion (λ s. Short (spelling s)) ss × (length ss ≤ 8)
 Small (alias s m) = Short s × Short m
 Small (filler w) = Short w
 

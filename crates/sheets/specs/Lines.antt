@@ -1,6 +1,6 @@
 -- What a line of a command sheet says, by how it is written. Assumes nothing.
 use Rattle.std.specs.Prelude.{◌≡◌, ℕ, Bool, true, false, cond, ◌&&◌, List, [], ◌∷◌, ◌++◌, map, codes, ◌==◌}
-use Rattle.std.specs.List.{AllByRecursion as All}
+use Rattle.std.specs.List.{AllByRecursion}
 use Rattle.grammar.specs.Letters.{digit, every, empty, name_spelled, word_spelled}
 
 -- a symbol as it is spelled
@@ -50,7 +50,7 @@ well (word s) = word_spelled s
 
 abbrev pub Well : Line → Type 0
 Well (rule weight left symbols) =
-    (weight_spelled weight ≡ true) × (name_spelled left ≡ true) × All (λ s. well s ≡ true) symbols
+    (weight_spelled weight ≡ true) × (name_spelled left ≡ true) × AllByRecursion (λ s. well s ≡ true) symbols
 Well (alias said meant) = (word_spelled said ≡ true) × (word_spelled meant ≡ true)
 Well (filler w) = word_spelled w ≡ true
 

@@ -1,6 +1,6 @@
 -- What the text of a sheet means, and what refuses it. Assumes nothing.
 use Rattle.std.specs.Prelude.{◌≡◌, ℕ, suc, ◌<◌, ◌≤◌, List, [], ◌∷◌, ◌++◌, map, length, slice_index_or}
-use Rattle.std.specs.List.{AllByRecursion as All}
+use Rattle.std.specs.List.{AllByRecursion}
 use Rattle.faults.specs.declared.Layer.TheVariants.{Load}
 use Rattle.faults.specs.declared.Refusal.{Refusal}
 use Rattle.faults.specs.declared.Refusal.TheVariants.{SheetTooLong, LineShape, LineLimit, SecondAlias, NoRule, NoTree, MessageTooLong, ByteNotAllowed, WordTooLong, UnlistedWord, NoSuchSeat, BrokenRecord, Full, LeadsNowhere, NothingToTakeBack, NoCommand, BufferTooShort}
@@ -25,7 +25,7 @@ ended (ℓ ∷ ls) = written ℓ ++ (10 ∷ ended ls)
 
 -- the text is these lines, and each is accepted after those before it
 abbrev pub Ordered : List ℕ → List Line → Type 0
-Ordered text ls = (text ≡ ended ls) × All Well ls × Accepted ls
+Ordered text ls = (text ≡ ended ls) × AllByRecursion Well ls × Accepted ls
 
 -- numbers spelled out again
 module _ (names words : List (List ℕ)) where
@@ -71,7 +71,7 @@ AliasedTwice before rest = (ℓ : Line) × (after : List ℕ) × (rest ≡ writt
 -- the first line that fails, by its number from 1
 abbrev pub FirstFault : List ℕ → (List Line → List ℕ → Type 0) → ℕ → Type 0
 FirstFault text fails n =
-    (before : List Line) × (rest : List ℕ) × (text ≡ ended before ++ rest) × All Well before × Accepted before × fails before rest × (n ≡ suc (length before))
+    (before : List Line) × (rest : List ℕ) × (text ≡ ended before ++ rest) × AllByRecursion Well before × Accepted before × fails before rest × (n ≡ suc (length before))
 
 -- why the loader refuses a text, and the place that it tells: none, a line or a name
 abbrev pub Refuses : List ℕ → Refusal → ℕ → Type 0

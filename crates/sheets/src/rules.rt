@@ -1,6 +1,6 @@
 // The rule of a rule line.
 ghost use Rattle.std.specs.Prelude.{◌≡◌, ℕ, ◌+◌, ◌<◌, ◌≤◌, true, List, map, Some, None};
-ghost use Rattle.std.specs.List.{AllByRecursion as All};
+ghost use Rattle.std.specs.List.{AllByRecursion};
 ghost use Rattle.grammar.specs.Grammar.{Formed};
 ghost use Rattle.sheets.specs.Lines.{Spelled, Line, spelling, tabbed, well};
 ghost use Rattle.sheets.specs.Spellings.{words_of};
@@ -16,7 +16,7 @@ use grammar::{Rule, Symbol};
 pub(crate) fn read_rule(draft: &mut Draft, weight: u16, left: u8, fields: &[u8]) -> Option<Rule>
     requires { (left < draft.old.name_count) × Symbols fields.now }
     ensures formed { elim result [ Some p ↦ Formed draft.new.name_count draft.new.word_count p × (p.weight ≡ weight) × (p.left ≡ left) | None ↦ Unit {0} ] }
-    ensures read { (before : List Line) (N : List (List ℕ)) (ss : List Spelled) → Holding before N (words_of before) draft.old → fields.now ≡ tabbed (map spelling ss) → All (λ s. well s ≡ true) ss → elim result [ Some p ↦ Righted before N (words_of before) ss draft.new p | None ↦ (Fitting N (words_of before) ss → ⊥) ] }
+    ensures read { (before : List Line) (N : List (List ℕ)) (ss : List Spelled) → Holding before N (words_of before) draft.old → fields.now ≡ tabbed (map spelling ss) → AllByRecursion (λ s. well s ≡ true) ss → elim result [ Some p ↦ Righted before N (words_of before) ss draft.new p | None ↦ (Fitting N (words_of before) ss → ⊥) ] }
 {
     let mut rule = Rule {
         weight,

@@ -1,6 +1,6 @@
 -- What is proved of messages and layers besides the calls. Assumes nothing.
 use Rattle.std.specs.Prelude.{◌≡◌, ℕ, zero, suc, ◌+◌, Bool, true, ◌&&◌, ◌↔◌, List, [], ◌∷◌, map, length, take, drop, filter, slice_index_or}
-use Rattle.std.specs.List.{prefix_len, AllByRecursion as All}
+use Rattle.std.specs.List.{prefix_len, AllByRecursion}
 use Rattle.sources.specs.Meanings.{Meaning, no_filler, without}
 use Rattle.sources.specs.Messages.{space, other, Run, runs}
 
@@ -23,4 +23,4 @@ RunsByBegins = (m : List ℕ) → runs 0 true m ≡ map (run_at m) (filter (begi
 
 -- leaving fillers out changes nothing exactly where no word is a filler
 abbrev pub FillersOnly : Type 0
-FillersOnly = (fillers : ℕ) (m : Meaning) → (without fillers m ≡ m) ↔ All (λ h. no_filler fillers h ≡ true) m.words
+FillersOnly = (fillers : ℕ) (m : Meaning) → (without fillers m ≡ m) ↔ AllByRecursion (λ h. no_filler fillers h ≡ true) m.words

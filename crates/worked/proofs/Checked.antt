@@ -1,6 +1,6 @@
 -- A case with its certificate, as one test: where it passes, the case stands.
 use Rattle.std.proofs.Common.{◌≡◌, ℕ, Bool, true, false, not, ◌&&◌, eqb, List, [], ◌∷◌, length, get_or, drop, Some, None, Ok, Err, Option, Result, sym, refl, ap, ◌∙◌, subst}
-use Rattle.std.specs.List.{AllByRecursion as All}
+use Rattle.std.specs.List.{AllByRecursion}
 use Rattle.std.proofs.lemmas.Bool.{and_parts, eqb-true, false≢true}
 use Rattle.faults.specs.Faults.{Told}
 use Rattle.grammar.specs.declared.sheet.Sheet.{Sheet}
@@ -180,7 +180,7 @@ module _ (said : Said) (s : Sheet) (on : Holds said s) (k : Certificate) where
     found (by_worst price) e =
         moved (λ us. The (Priced s worst us) (λ p. p ≡ price)) (the_price s ps on.rules worst worst_laws k.standing k.reading k.worst_bounds price e)
 
-    all_found : (fs : List Finding) → all (finds ps count ns k h.answer) fs ≡ true → All (Found s h) fs
+    all_found : (fs : List Finding) → all (finds ps count ns k h.answer) fs ≡ true → AllByRecursion (Found s h) fs
     all_found [] e = tt
     all_found (f ∷ fs) e =
         let parts = and_parts (finds ps count ns k h.answer f) _ e in
@@ -200,9 +200,9 @@ checked c k t s says =
     let three = and_parts (hearable count k.standing (offered_by ps count ns k k.log) (length k.standing) [] m.words (yield k.command)) _ two.1 in
     let four = and_parts (same_words h.standing k.standing) (all (finds ps count ns k h.answer) c.findings) three.1 in
     let command : Command (grammar_of s) (yield k.command) = ∣ derived s ps on.rules (yield k.command) k.command one.0 ∣₁ in
-    subst (λ (x : Meaning). The (λ h. HeardOut s x h.answer h.standing h.left) (λ h. All (Found s h) c.findings)) (sym (meant_so said s c.message on))
+    subst (λ (x : Meaning). The (λ h. HeardOut s x h.answer h.standing h.left) (λ h. AllByRecursion (Found s h) c.findings)) (sym (meant_so said s c.message on))
     (the_hearing s count (ap length on.words) k.standing (offered_by ps count ns k k.log) (not_offered said s on k k.log two.0) (length k.standing) m (yield k.command) command three.0
-    (λ h. All (Found s h) c.findings) (all_found said s on k h (words_same h.standing k.standing four.0) two.0 c.findings four.1))
+    (λ h. AllByRecursion (Found s h) c.findings) (all_found said s on k h (words_same h.standing k.standing four.0) two.0 c.findings four.1))
 
 -- ---- all cases, each with its certificate
 
@@ -211,7 +211,7 @@ check_all [] ks = true
 check_all (c ∷ cs) [] = false
 check_all (c ∷ cs) (k ∷ ks) = check c k && check_all cs ks
 
-pub all_checked : (cs : List Case) (ks : List Certificate) → check_all cs ks ≡ true → All Agrees cs
+pub all_checked : (cs : List Case) (ks : List Certificate) → check_all cs ks ≡ true → AllByRecursion Agrees cs
 all_checked [] ks t = tt
 all_checked (c ∷ cs) [] t = absurd (false≢true t)
 all_checked (c ∷ cs) (k ∷ ks) t =

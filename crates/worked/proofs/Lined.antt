@@ -1,7 +1,7 @@
 -- Lines of rules alone, in order by a test.
 use Rattle.std.proofs.Common.{◌≡◌, ℕ, Bool, true, false, ◌&&◌, leb, List, [], ◌∷◌, ◌++◌, length, sym, subst, append_assoc, append-nil}
 use mathlib.Core.List.{head-eq_of_cons-eq, tail-eq_of_cons-eq}
-use Rattle.std.specs.List.{AllByRecursion as All}
+use Rattle.std.specs.List.{AllByRecursion}
 use Rattle.std.proofs.lemmas.Bool.{and_parts, leb-true, false≢true}
 use Rattle.grammar.specs.Letters.{name_spelled}
 use Rattle.tables.proofs.Contexts.{no_split}
@@ -36,11 +36,11 @@ abbrev pub in_order : List Line → List Line → Bool
 in_order done [] = true
 in_order done (ℓ ∷ ls) = ruled ℓ && (roomy (done ++ (ℓ ∷ [])) && in_order (done ++ (ℓ ∷ [])) ls)
 
-all_so : {A : Type 0} (p : A → Bool) (xs : List A) → all p xs ≡ true → All (λ x. p x ≡ true) xs
+all_so : {A : Type 0} (p : A → Bool) (xs : List A) → all p xs ≡ true → AllByRecursion (λ x. p x ≡ true) xs
 all_so p [] h = tt
 all_so p (x ∷ xs) h = let parts = and_parts (p x) (all p xs) h in (parts.0, all_so p xs parts.1)
 
-all_short : (ss : List Spelled) → all short ss ≡ true → All (λ s. Short (spelling s)) ss
+all_short : (ss : List Spelled) → all short ss ≡ true → AllByRecursion (λ s. Short (spelling s)) ss
 all_short [] h = tt
 all_short (s ∷ ss) h = let parts = and_parts (short s) (all short ss) h in (leb-true (length (spelling s)) 15 parts.0, all_short ss parts.1)
 
@@ -74,7 +74,7 @@ has_room ls h =
     let four = and_parts (leb (length (renamings ls)) 16) (leb (places_of ls) 256) three.1 in
     (leb-true _ 32 one.0, leb-true _ 64 two.0, leb-true _ 128 three.0, leb-true _ 16 four.0, leb-true _ 256 four.1)
 
-pub all_well : (done ls : List Line) → in_order done ls ≡ true → All Well ls
+pub all_well : (done ls : List Line) → in_order done ls ≡ true → AllByRecursion Well ls
 all_well done [] h = tt
 all_well done (ℓ ∷ ls) h =
     let one = and_parts (ruled ℓ) _ h in

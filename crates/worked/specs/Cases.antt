@@ -1,6 +1,6 @@
 -- Ten cases worked out by hand, and that the definitions give just that. Assumes nothing.
 use Rattle.std.specs.Prelude.{ℕ, List, [], ◌∷◌, codes}
-use Rattle.std.specs.List.{AllByRecursion as All}
+use Rattle.std.specs.List.{AllByRecursion}
 use Rattle.faults.specs.declared.Refusal.TheVariants.{LeadsNowhere}
 use Rattle.worked.specs.Lathe.{hold, the, lathe}
 use Rattle.worked.specs.Findings.{Finding, stand, refused, held, offer, number, no_command, by_points, by_worst, blank, lathe_sheet, Case, Agrees}
@@ -31,4 +31,4 @@ cases =
 
 -- the definitions agree with all ten
 abbrev pub Worked : Type 0
-Worked = All Agrees cases
+Worked = AllByRecursion Agrees cases

@@ -1,6 +1,6 @@
 -- What is found of a message on a sheet, each finding by the definitions that the calls' contracts cite. Assumes nothing.
 use Rattle.std.specs.Prelude.{◌≡◌, ℕ, ◌^◌, ◌<◌, List, [], length, drop, Ok, Err, Result, slice_index}
-use Rattle.std.specs.List.{AllByRecursion as All}
+use Rattle.std.specs.List.{AllByRecursion}
 use Rattle.faults.specs.declared.Refusal.{Refusal}
 use Rattle.faults.specs.Faults.{Told}
 use Rattle.grammar.specs.declared.sheet.Sheet.{Sheet}
@@ -93,4 +93,4 @@ pub record Case : Type 0 where
 
 -- on every sheet that says so, the message is heard in one way, and all that is listed is found
 abbrev pub Agrees : Case → Type 0
-Agrees c = (s : Sheet) → Says c.sheet s → The (Heard s c.message) (λ h. All (Found s h) c.findings)
+Agrees c = (s : Sheet) → Says c.sheet s → The (Heard s c.message) (λ h. AllByRecursion (Found s h) c.findings)

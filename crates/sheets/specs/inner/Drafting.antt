@@ -1,6 +1,6 @@
 -- A draft that holds the lines so far. Assumes nothing.
 use Rattle.std.specs.Prelude.{◌≡◌, ℕ, ◌<◌, ◌≤◌, true, List, [], ◌∷◌, ◌++◌, map, length, get_or, take, Ok, Err, Result, slice_index_or}
-use Rattle.std.specs.List.{AllByRecursion as All}
+use Rattle.std.specs.List.{AllByRecursion}
 use Rattle.faults.specs.declared.Refusal.{Refusal}
 use Rattle.faults.specs.declared.Refusal.TheVariants.{LineLimit, SecondAlias}
 use Rattle.grammar.specs.declared.Rule.{Rule}
@@ -9,7 +9,7 @@ use Rattle.grammar.specs.Grammar.{right}
 use Rattle.grammar.specs.Bits.{has}
 use Rattle.grammar.specs.Limits.{texts}
 use Rattle.sheets.specs.declared.refusals.Bar.{Bar}
-use Rattle.sheets.specs.declared.refusals.Bar.TheVariants.{Limit, Second as Second-alias}
+use Rattle.sheets.specs.declared.refusals.Bar.TheVariants.{Limit, Second as SecondBar}
 use Rattle.sheets.specs.Lines.{Spelled, Line, spelling}
 use Rattle.sheets.specs.Spellings.{names_among, words_among, member, with_all, names_of, words_of}
 use Rattle.sheets.specs.Limits.{productions, renamings, fillers_of, places_of, Short, Within, Second}
@@ -38,11 +38,11 @@ pub record Righted (before : List Line) (N W : List (List ℕ)) (ss : List Spell
   pub held : Holding before (with_all N (names_among ss)) (with_all W (words_among ss)) d
   pub spells : map (spelled (with_all N (names_among ss)) (with_all W (words_among ss))) (right p) ≡ ss
   pub counted : length ss ≡ p.len
-  pub short : All (λ s. Short (spelling s)) ss
+  pub short : AllByRecursion (λ s. Short (spelling s)) ss
 
 -- there is room for the symbols beside the names N and the words W
 pub record Fitting (N W : List (List ℕ)) (ss : List Spelled) : Type 0 where
-  pub short : All (λ s. Short (spelling s)) ss
+  pub short : AllByRecursion (λ s. Short (spelling s)) ss
   pub few : length ss ≤ 8
   pub names : length (with_all N (names_among ss)) ≤ 32
   pub words : length (with_all W (words_among ss)) ≤ 64
@@ -51,8 +51,8 @@ pub record Fitting (N W : List (List ℕ)) (ss : List Spelled) : Type 0 where
 abbrev pub Outcome : List Line → Line → Result (Unit {0}) Bar → Draft → Type 0
 Outcome before ℓ (Ok u) d = Drafted (before ++ (ℓ ∷ [])) d × Within before ℓ × (Second before ℓ → ⊥)
 Outcome before ℓ (Err Limit) d = Within before ℓ → ⊥
-Outcome before ℓ (Err Second-alias) d = Within before ℓ × Second before ℓ
+Outcome before ℓ (Err SecondBar) d = Within before ℓ × Second before ℓ
 
 abbrev pub refusal_of : Bar → Refusal
 refusal_of Limit = LineLimit
-refusal_of Second-alias = SecondAlias
+refusal_of SecondBar = SecondAlias

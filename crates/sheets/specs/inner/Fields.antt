@@ -1,6 +1,6 @@
 -- Bytes cut at a byte. Assumes nothing.
 use Rattle.std.specs.Prelude.{◌≡◌, ℕ, Bool, true, not, ◌||◌, List, [], ◌∷◌, ◌++◌, map, ◌==◌}
-use Rattle.std.specs.List.{AllByRecursion as All}
+use Rattle.std.specs.List.{AllByRecursion}
 use Rattle.grammar.specs.Letters.{every, name_spelled, word_spelled}
 use Rattle.sheets.specs.Lines.{Spelled, Line, spelling, well, Well, fields, tabbed}
 
@@ -33,4 +33,4 @@ symbol_spelled cs = name_spelled cs || word_spelled cs
 
 -- the bytes are fields that are symbols
 abbrev pub Symbols : List ℕ → Type 0
-Symbols bytes = (ss : List Spelled) × (bytes ≡ tabbed (map spelling ss)) × All (λ s. well s ≡ true) ss
+Symbols bytes = (ss : List Spelled) × (bytes ≡ tabbed (map spelling ss)) × AllByRecursion (λ s. well s ≡ true) ss
