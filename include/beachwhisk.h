@@ -1,6 +1,6 @@
 /* Beachwhisk: the command reader of a chat server, for servers written in C or in any language that calls C.
  *
- * Link libbeachwhisk.a, which `rt staticlib beachwhisk` builds. It needs memcpy and memset, and nothing else.
+ * Link libbeachwhisk.a, which `rt lib` builds in crates/beachwhisk, as out/libbeachwhisk.a. It needs memcpy and memset, and nothing else.
  *
  * A sheet is given to each call as its text. The call loads it, does its work and keeps nothing: the library has
  * no memory of its own, never allocates, and any number of threads may call it, on memory of their own.
