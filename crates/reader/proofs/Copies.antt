@@ -1,5 +1,5 @@
 -- The words of a record: their column, their copy, and what is read of it. Assumes nothing.
-use Rattle.std.proofs.Common.{◌≡◌, ℕ, ◌+◌, ◌%◌, ◌<◌, List, length, get_or, take, drop, Some, None, Option, sym, refl, ◌∙◌, subst, arith}
+use Rattle.std.proofs.Common.{◌≡◌, ℕ, ◌+◌, ◌%◌, ◌<◌, ◌≤◌, List, length, get_or, take, drop, Some, None, Option, sym, refl, ◌∙◌, subst, arith}
 use mathlib.Core.HLevel.{⊥_prop}
 use mathlib.Core.Logic.{∥∥₁_elim}
 use Rattle.std.proofs.lemmas.List.{ext_get_or, get_or-take, length-take-le}
@@ -12,14 +12,21 @@ use Rattle.seats.proofs.Records.{listed_low, seat_count, seat_word, seat_whole}
 use Rattle.seats.proofs.TableLent.{lent_is}
 use Rattle.readings.specs.declared.read.Reading.{Reading}
 use Rattle.readings.specs.Scales.{Scale}
-use Rattle.readings.specs.Cheapest.{Cheapest, Unread}
+use Rattle.readings.specs.Cheapest.{Cheapest, Written, Tabled}
 use Rattle.reader.specs.Reads.{Lent, Reads, reading, no_command}
 use Rattle.reader.specs.inner.Settled.{settled}
 
 module _ (s : Sheet) (ws xs : List ℕ) (stand : Seat s ws xs) where
-  -- the last column, in the table as it is lent
+  -- a column, in the table as it is lent
+  lent_column : (j : ℕ) → j ≤ 20 → Column (grammar_of s) ws (take 924 (drop 21 xs)) j
+  lent_column j h = subst (λ (t : List ℕ). Column (grammar_of s) ws t j) (sym (lent_is xs stand.size)) (stand.table j h)
+
   pub last_column : Column (grammar_of s) ws (take 924 (drop 21 xs)) (get_or xs 0 0)
-  last_column = subst (λ (t : List ℕ). Column (grammar_of s) ws t (get_or xs 0 0)) (sym (lent_is xs stand.size)) (stand.table (get_or xs 0 0) (seat_whole s ws xs stand).few)
+  last_column = lent_column (get_or xs 0 0) (seat_whole s ws xs stand).few
+
+  -- the table of the words, as they were copied
+  pub tabled : (vs : List ℕ) → vs ≡ ws → Tabled (grammar_of s) vs (take 924 (drop 21 xs))
+  tabled vs same = subst (λ (us : List ℕ). Tabled (grammar_of s) us (take 924 (drop 21 xs))) (sym same) (λ j h. let few = stand.few in lent_column j (omega arith))
 
   -- the counted words, each cut to eight bits, are the words
   pub copied : (words : List ℕ) → length words ≡ 20 → ((k : ℕ) → k < get_or xs 0 0 → get_or words k 0 ≡ get_or xs (1 + k) 0 % 256) → take (get_or xs 0 0) words ≡ ws
@@ -37,7 +44,7 @@ module _ (s : Sheet) (ws xs : List ℕ) (stand : Seat s ws xs) where
 -- what is read of words that are a command; vs is the words as they were copied
 module _ {P : Type 0} (s : Sheet) (S : Scale P) (ws vs : List ℕ) (b b' : Lent P) where
   pub reads : (r : Option (Reading P))
-      → elim r as (λ v. Type 0) [ Some d ↦ Cheapest (grammar_of s) S vs b.list b'.list d.length d.price | None ↦ Unread (grammar_of s) vs b.list b'.list ]
+      → Written (grammar_of s) S vs b.list b'.list r
       → Command (grammar_of s) ws → vs ≡ ws → Reads s S ws b (settled r) b'
   reads (Some d) cheapest command same = reading d refl (subst (λ us. Cheapest (grammar_of s) S us b.list b'.list d.length d.price) same cheapest)
   reads None unread command same = absurd (∥∥₁_elim command ⊥_prop (λ d. unread.underived (subst (Derivation (grammar_of s)) (sym same) d)))

@@ -1,7 +1,7 @@
 // Reads the words standing at a seat: a cheapest derivation of them, or why there is none.
 ghost use Rattle.std.specs.Prelude.{◌≡◌, ℕ, ◌+◌, ◌%◌, ◌<◌, ◌≤◌, List, length, Decides, slice_index};
 ghost use Rattle.faults.specs.Faults.{telling};
-ghost use Rattle.seats.specs.Seats.{Seat, Whole, seat as seat_of};
+ghost use Rattle.seats.specs.Seats.{Seat, Whole, seat as seat-of};
 ghost use Rattle.seats.specs.Calls.{Addressed};
 ghost use Rattle.reader.specs.Reads.{Room, Reads, Read};
 ghost use Rattle.reader.specs.inner.Settled.{settled};
@@ -15,7 +15,7 @@ use tables::is_command;
 
 // Whether what is lent is long enough.
 fn has_room<P>(list: &[u8], prices: &[P], numbers: &[u32]) -> bool
-    ensures { Decides result (Room (record { list = list.now; prices = prices.now; numbers = numbers.now })) }
+    ensures { Decides result (Room (record { list = list.entry.now; prices = prices.now; numbers = numbers.now })) }
 {
     list.len() >= 10240 && prices.len() >= 8192 && numbers.len() >= 8192
 }
@@ -23,7 +23,7 @@ fn has_room<P>(list: &[u8], prices: &[P], numbers: &[u32]) -> bool
 // The numbers of one seat.
 fn numbers_at(hall: &[u64], k: usize) -> &[u64]
     requires { Addressed hall.now k }
-    ensures { result.now ≡ seat_of hall.now k }
+    ensures { result.now ≡ seat-of hall.now k }
 {
     &hall[945 * k..945 * k + 945]
 }
@@ -51,15 +51,22 @@ fn read_seat<C: Scale>(
 ) -> Option<Reading<C::Price>>
     requires long { length seat.now ≡ 945 }
     requires whole { Whole sheet.now seat.now }
-    requires room { Room (record { list = list.old; prices = prices.old; numbers = numbers.old }) }
-    ensures { (ws : List ℕ) → Seat sheet.now ws seat.now → Reads sheet.now C.Scale.measure ws (record { list = list.old; prices = prices.old; numbers = numbers.old }) (settled result) (record { list = list.new; prices = prices.new; numbers = numbers.new }) }
+    requires room { Room (record { list = list.now; prices = prices.old; numbers = numbers.old }) }
+    ensures { (ws : List ℕ) → Seat sheet.now ws seat.now → Reads sheet.now C.Scale.measure ws (record { list = list.entry.now; prices = prices.old; numbers = numbers.old }) (settled result) (record { list = list.exit.now; prices = prices.new; numbers = numbers.new }) }
 {
     let count = seat[0] as usize;
     if !is_command(sheet, &seat[21..945], count) {
         return None;
     }
     let words = copy_words(seat, count);
-    write_reading::<C>(sheet, &words[..count], list, prices, numbers)
+    write_reading::<C>(
+        sheet,
+        &words[..count],
+        &seat[21..945],
+        list,
+        prices,
+        numbers,
+    )
 }
 
 // Words that have no reading are no command.
@@ -81,7 +88,7 @@ pub fn read<C: Scale>(
     prices: &mut [C::Price],
     numbers: &mut [u32],
 ) -> Result<Reading<C::Price>, Fault>
-    ensures { Read sheet.now C.Scale.measure seat hall.now (record { list = list.old; prices = prices.old; numbers = numbers.old }) (telling result) (record { list = list.new; prices = prices.new; numbers = numbers.new }) }
+    ensures { Read sheet.now C.Scale.measure seat hall.now (record { list = list.entry.now; prices = prices.old; numbers = numbers.old }) (telling result) (record { list = list.exit.now; prices = prices.new; numbers = numbers.new }) }
 {
     if let Some(fault) = bar(sheet, hall, seat) {
         return Err(fault);

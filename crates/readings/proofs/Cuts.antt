@@ -48,10 +48,10 @@ module _ {P : Type 0} (S : Scale P) (L : Laws S) (child : Symbol → ℕ → ℕ
       split q (c, b) = by_cases (dec_lt c.to k) (λ y. inl (c, y)) (λ z. let e : c.to ≡ k = omega arith in inr (c.head, c.tail, rw e at c.priced, rw e at c.rest, c.joins))
 
   -- the same as a turn of the loop has it
-  pub cut_turn : (x : Symbol) (s : List Symbol) (m n k : ℕ) (best first read both next : Option P) → m ≤ k
-      → first ≡ child x m k → both ≡ joined S first read → next ≡ cheaper S best both
+  pub cut_turn : (x : Symbol) (s : List Symbol) (m n k : ℕ) (best first read next : Option P) → m ≤ k
+      → first ≡ child x m k → next ≡ cheaper S best (joined S first read)
       → Least S (CutsBelow S child x s m n k) best → Least S (Cuts S child s k n) read → Least S (CutsBelow S child x s m n (k + 1)) next
-  cut_turn x s m n k best first read both next h e f d l l' = rw (add-one k, d, f, e) (cut_more x s m n k best read h l l')
+  cut_turn x s m n k best first read next h e d l l' = rw (add-one k, d, e) (cut_more x s m n k best read h l l')
 
   -- every end of the first stretch
   pub cut_all : (x : Symbol) (s : List Symbol) (m n : ℕ) (o : Option P)

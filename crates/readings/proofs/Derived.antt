@@ -4,11 +4,13 @@ use lib.Seq.{take-length}
 use Rattle.grammar.specs.declared.Symbol.TheVariants.{Name}
 use Rattle.grammar.specs.declared.Rule.{Rule}
 use Rattle.grammar.specs.Trees.{Row, yield, Fits}
+use Rattle.tables.specs.Table.{stretch}
 use Rattle.readings.specs.Scales.{Scale, NoDearer, Laws}
 use Rattle.readings.specs.Prices.{price}
 use Rattle.readings.specs.inner.Least.{Least}
-use Rattle.readings.specs.inner.Stretches.{stretch, Over, Costs}
+use Rattle.readings.specs.inner.Stretches.{Over, Costs}
 use Rattle.readings.specs.inner.Tables.{Table, Filled}
+use Rattle.readings.specs.inner.Shown.{Live}
 use Rattle.readings.proofs.Fills.{filled_exact}
 
 whole : (ws : List ℕ) → stretch 0 (length ws) ws ≡ ws
@@ -20,9 +22,9 @@ over_all ws row e = record { ordered = omega arith; within = omega arith; yields
 pub all_over : (ws : List ℕ) (row : Row) → Over ws 0 (length ws) row → yield row ≡ ws
 all_over ws row o = o.yields ∙ whole ws
 
-module _ {P : Type 0} (rules : List Rule) (S : Scale P) (L : Laws S) (ws : List ℕ) (t : Table P) (i : ℕ) (f : Filled rules S ws t i (suc (length ws))) (a : ℕ) where
+module _ {P : Type 0} (rules : List Rule) (S : Scale P) (L : Laws S) (ws dots : List ℕ) (t : Table P) (i : ℕ) (f : Filled rules S ws dots t i (suc (length ws))) (a : ℕ) (v : Live rules ws dots 0 a) where
   exact : Least S (Costs rules S ws (Name a ∷ []) 0 (length ws)) (t.at 0 (length ws) a)
-  exact = filled_exact rules S L ws t i (suc (length ws)) f 0 (length ws) a (omega arith) (omega arith)
+  exact = filled_exact rules S L ws dots t i (suc (length ws)) f 0 (length ws) a v (omega arith) (omega arith)
 
   -- no tree for the name yields the words
   pub table_refuses : t.at 0 (length ws) a ≡ None → (row : Row) → Fits rules (Name a ∷ []) row → yield row ≡ ws → ⊥

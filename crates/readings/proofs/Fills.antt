@@ -1,10 +1,11 @@
 -- The table filled cell after cell. Assumes nothing.
-use Rattle.std.proofs.Common.{◌≡◌, ℕ, zero, suc, ◌+◌, ◌<◌, ◌≤◌, List, [], ◌∷◌, length, Some, None, Option, sym, refl, ap, ◌∙◌, subst, add-one, arith}
+use Rattle.std.proofs.Common.{◌≡◌, ℕ, zero, suc, ◌+◌, ◌<◌, ◌≤◌, List, [], ◌∷◌, length, get_or, Some, None, Option, sym, refl, ap, ◌∙◌, subst, add-one, arith}
 use mathlib.Core.Logic.Dec
 use mathlib.Core.Logic.{by_cases}
 use native.Mathlib.Decide.{dec_lt, ℕ_discrete}
 use Rattle.grammar.specs.declared.Symbol.TheVariants.{Name}
 use Rattle.grammar.specs.declared.Rule.{Rule}
+use Rattle.tables.specs.Columns.{cell_of}
 use Rattle.readings.specs.Scales.{Scale, Laws}
 use Rattle.readings.specs.Prices.{nth}
 use Rattle.readings.specs.inner.Least.{Lower, Least}
@@ -12,6 +13,7 @@ use Rattle.readings.specs.inner.Stretches.{Costs}
 use Rattle.readings.specs.inner.Tables.{Table, Made, Adds, Filled}
 use Rattle.readings.specs.inner.Candidates.{AnyCandidate, Best, Picked}
 use Rattle.readings.specs.inner.Filling.{Partly, Filling, present, count}
+use Rattle.readings.specs.inner.Shown.{Live, Among, Tried}
 use Rattle.readings.proofs.Least.{none_some}
 use Rattle.readings.proofs.Optimal.{bounded_all, partly_more, bounded_kept}
 use Rattle.readings.proofs.Rows.{recorded_more, exact}
@@ -52,17 +54,17 @@ module _ {P : Type 0} (t t' : Table P) (i j a : ℕ) (p : P) (k r : ℕ) (ad : A
 
 -- ---- one cell
 
-module _ {P : Type 0} (rules : List Rule) (S : Scale P) (L : Laws S) (ws : List ℕ) (t : Table P) (i j : ℕ) where
-  partly_from : (k : ℕ) → Filling rules S ws t i j k → Partly rules S ws t i j k
+module _ {P : Type 0} (rules : List Rule) (S : Scale P) (L : Laws S) (ws dots : List ℕ) (t : Table P) (i j : ℕ) where
+  partly_from : (k : ℕ) → Filling rules S ws dots t i j k → Partly rules S ws dots t i j k
   partly_from k f = record { smaller = λ m n x y z d. f.done m n y (λ w. (omega arith, omega arith)); here = f.here; ranked = f.ranked }
 
-  pub filling_start : Filled rules S ws t (suc i) j → Filling rules S ws t i j 0
+  pub filling_start : Filled rules S ws dots t (suc i) j → Filling rules S ws dots t i j 0
   filling_start f =
       record {
         done = f.done;
         only = λ m n a c e x. let y = f.only m n a c e x in (y.0, omega arith);
         recorded = f.recorded;
-        here = λ a c e. absurd (let y = f.only i j a c e (omega arith) in let z : ⊥ = omega arith in z);
+        here = λ a c e _. absurd (let y = f.only i j a c e (omega arith) in let z : ⊥ = omega arith in z);
         ranked = λ a c e. absurd (let y = f.only i j a c e (omega arith) in let z : ⊥ = omega arith in z);
         counted = count_none t i j 32 (λ a. none a (t.at i j a) refl);
       }
@@ -72,14 +74,14 @@ module _ {P : Type 0} (rules : List Rule) (S : Scale P) (L : Laws S) (ws : List 
       none a (Some c) e = absurd (let y = f.only i j a c e (omega arith) in let z : ⊥ = omega arith in z)
 
   -- a candidate's rank has room: fewer than 32 names have a price
-  pub picked_low : (k r : ℕ) (p : P) → Filling rules S ws t i j k → Picked rules S ws t i j k r p → (nth rules r).left < 32 → k < 32
-  picked_low k r p f h b = let e = f.counted in let c = count_free t i j (nth rules r).left 32 b h.free in omega arith
+  pub picked_low : (tried : List ℕ) (k r : ℕ) (p : P) → Filling rules S ws dots t i j k → Picked rules S ws tried t i j k r p → (nth rules r).left < 32 → k < 32
+  picked_low tried k r p f h b = let e = f.counted in let c = count_free t i j (nth rules r).left 32 b h.free in omega arith
 
-  pub filling_more : (t' : Table P) (k r : ℕ) (p : P) → i ≤ j → j ≤ length ws → (nth rules r).left < 32 → Picked rules S ws t i j k r p → Adds t t' i j (nth rules r).left p k r
-      → Filling rules S ws t i j k → Filling rules S ws t' i j (suc k)
-  filling_more t' k r p x y b h ad f =
+  pub filling_more : (tried : List ℕ) (t' : Table P) (k r : ℕ) (p : P) → Tried rules (cell_of dots i j) tried → i ≤ j → j ≤ length ws → (nth rules r).left < 32 → Picked rules S ws tried t i j k r p → Adds t t' i j (nth rules r).left p k r
+      → Filling rules S ws dots t i j k → Filling rules S ws dots t' i j (suc k)
+  filling_more tried t' k r p g x y b h ad f =
       record {
-        done = λ m n z e. bounded_kept rules S L ws t i j k t' (nth rules r).left p r m n ad (λ u v. let w = e (omega arith) in omega arith) (f.done m n z e);
+        done = λ m n z e. bounded_kept rules S L ws dots tried t i j k t' (nth rules r).left p r m n ad (λ u v. let w = e (omega arith) in omega arith) (f.done m n z e);
         only = λ m n a c e w. by_cases (Dec.and (ℕ_discrete m i) (ℕ_discrete n j)) (λ z. (z.1, omega arith)) (λ z. f.only m n a c (sym (ad.at_old m n a (λ u v _. z (u, v))) ∙ e) w);
         recorded = recorded_more S ws t t' i j (nth rules r).left p k r ad h.free L rules f.ranked (λ m n a c e u v. let w = f.only m n a c e v in (omega arith, w.0)) new f.recorded;
         here = next.here;
@@ -88,26 +90,26 @@ module _ {P : Type 0} (rules : List Rule) (S : Scale P) (L : Laws S) (ws : List 
       }
     where
       new : Made rules S ws t i j (nth rules r).left k r p
-      new = record { ordered = x; within = y; listed = h.listed; left = refl; low = picked_low k r p f h b; cut = h.cut; least = h.least; joins = h.joins }
+      new = record { ordered = x; within = y; listed = h.listed; left = refl; low = picked_low tried k r p f h b; cut = h.cut; least = h.least; joins = h.joins }
 
-      next : Partly rules S ws t' i j (suc k)
-      next = partly_more rules S L ws t i j k t' r p ad h.free (partly_from k f) h.lower
+      next : Partly rules S ws dots t' i j (suc k)
+      next = partly_more rules S L ws dots tried t i j k t' r p ad h.free g (partly_from k f) h.lower
 
   -- no candidate is left
-  pub filling_done : (k : ℕ) → Filling rules S ws t i j k → Lower S (AnyCandidate rules S ws t i j k) None → Filled rules S ws t i j
-  filling_done k f l =
+  pub filling_done : (tried : List ℕ) (k : ℕ) → Tried rules (cell_of dots i j) tried → Filling rules S ws dots t i j k → Lower S (AnyCandidate rules S ws tried t i j k) None → Filled rules S ws dots t i j
+  filling_done tried k g f l =
       record {
-        done = λ m n x e. by_cases (ℕ_discrete m i) (λ u. by_cases (ℕ_discrete n j) (λ v. rw (u, v) (bounded_all rules S L ws t i j k (partly_from k f) l)) (λ v. f.done m n x (λ w. absurd (v (e w).0)))) (λ u. f.done m n x (λ w. let z = e w in (z.0, omega arith)));
+        done = λ m n x e. by_cases (ℕ_discrete m i) (λ u. by_cases (ℕ_discrete n j) (λ v. rw (u, v) (bounded_all rules S L ws dots tried t i j k g (partly_from k f) l)) (λ v. f.done m n x (λ w. absurd (v (e w).0)))) (λ u. f.done m n x (λ w. let z = e w in (z.0, omega arith)));
         only = f.only;
         recorded = f.recorded;
       }
 
   -- all 32 names have a price: no candidate is left
-  pub filling_full : Filling rules S ws t i j 32 → ((r : ℕ) → r < length rules → (nth rules r).left < 32) → Lower S (AnyCandidate rules S ws t i j 32) None
-  filling_full f b q c = let e = f.counted in let z = count_free t i j (nth rules c.0).left 32 (b c.0 c.1) c.2.free in omega arith
+  pub filling_full : (tried : List ℕ) → Filling rules S ws dots t i j 32 → ((r : ℕ) → Among tried r → (nth rules r).left < 32) → Lower S (AnyCandidate rules S ws tried t i j 32) None
+  filling_full tried f b q c = let e = f.counted in let z = count_free t i j (nth rules c.0).left 32 (b c.0 c.1) c.2.free in omega arith
 
   -- the next column, before its first cell
-  pub filled_next : Filled rules S ws t 0 j → Filled rules S ws t (suc (suc j)) (suc j)
+  pub filled_next : Filled rules S ws dots t 0 j → Filled rules S ws dots t (suc (suc j)) (suc j)
   filled_next f =
       record {
         done = λ m n x e. f.done m n x (λ w. by_cases (dec_lt j n) (λ y. absurd (let u = e y in let z : ⊥ = omega arith in z)) (λ y. (omega arith, omega arith)));
@@ -115,11 +117,11 @@ module _ {P : Type 0} (rules : List Rule) (S : Scale P) (L : Laws S) (ws : List 
         recorded = f.recorded;
       }
 
-  pub filled_turn : Filled rules S ws t 0 j → Filled rules S ws t (j + 1 + 1) (j + 1)
+  pub filled_turn : Filled rules S ws dots t 0 j → Filled rules S ws dots t (j + 1 + 1) (j + 1)
   filled_turn f = rw (add-one (j + 1), add-one j) (filled_next f)
 
   -- an empty table
-  pub filled_none : ((m n a : ℕ) → t.at m n a ≡ None) → Filled rules S ws t 1 0
+  pub filled_none : ((m n a : ℕ) → t.at m n a ≡ None) → Filled rules S ws dots t 1 0
   filled_none e =
       record {
         done = λ m n x y. absurd (let u = y (omega arith) in let z : ⊥ = omega arith in z);
@@ -127,22 +129,22 @@ module _ {P : Type 0} (rules : List Rule) (S : Scale P) (L : Laws S) (ws : List 
         recorded = λ m n a c f. absurd (none_some (e m n a) f);
       }
 
-  -- a cell that is done has the cheapest price of every name
-  pub filled_exact : Filled rules S ws t i j → (m n a : ℕ) → m ≤ n → n < j → Least S (Costs rules S ws (Name a ∷ []) m n) (t.at m n a)
-  filled_exact f m n a x y = exact rules S L ws t f.recorded m n (f.done m n x (λ w. absurd (let z : ⊥ = omega arith in z))) a
+  -- a cell that is done has the cheapest price of every live name
+  pub filled_exact : Filled rules S ws dots t i j → (m n a : ℕ) → Live rules ws dots m a → m ≤ n → n < j → Least S (Costs rules S ws (Name a ∷ []) m n) (t.at m n a)
+  filled_exact f m n a v x y = exact rules S L ws t f.recorded dots m n (f.done m n x (λ w. absurd (let z : ⊥ = omega arith in z))) a v
 
--- ---- the turns of a cell, by the best of all rules
+-- ---- the turns of a cell, by the best of the rules tried
 
-module _ {P : Type 0} (rules : List Rule) (S : Scale P) (L : Laws S) (ws : List ℕ) (t : Table P) (i j k : ℕ) where
-  pub best_picked : (r : ℕ) (p : P) → Best rules S ws t i j k r (Some p) → Picked rules S ws t i j k r p
-  best_picked r p b =
+module _ {P : Type 0} (rules : List Rule) (S : Scale P) (L : Laws S) (ws dots tried : List ℕ) (t : Table P) (i j k : ℕ) (g : Tried rules (cell_of dots i j) tried) where
+  pub best_picked : (x : ℕ) (p : P) → Best rules S ws tried t i j k x (Some p) → Picked rules S ws tried t i j k (get_or tried x 0) p
+  best_picked x p b =
       let z = b.leads p refl in
-      record { listed = z.0; free = z.1.free; cut = z.1.cut; least = z.1.least; joins = z.1.joins; lower = b.lower }
+      record { listed = g.listed x z.0; free = z.1.free; cut = z.1.cut; least = z.1.least; joins = z.1.joins; lower = b.lower }
 
-  pub filling_last : (r : ℕ) (o : Option P) → o ≡ None → Best rules S ws t i j k r o → Filling rules S ws t i j k → Filled rules S ws t i j
-  filling_last r o e b f = filling_done rules S L ws t i j k f (subst (Lower S (AnyCandidate rules S ws t i j k)) e b.lower)
+  pub filling_last : (x : ℕ) (o : Option P) → o ≡ None → Best rules S ws tried t i j k x o → Filling rules S ws dots t i j k → Filled rules S ws dots t i j
+  filling_last x o e b f = filling_done rules S L ws dots t i j tried k g f (subst (Lower S (AnyCandidate rules S ws tried t i j k)) e b.lower)
 
-  pub filling_next : (t' : Table P) (r : ℕ) (o : Option P) (p : P) → o ≡ Some p → i ≤ j → j ≤ length ws → (nth rules r).left < 32 → Best rules S ws t i j k r o
-      → Adds t t' i j (nth rules r).left p k r → Filling rules S ws t i j k → Filling rules S ws t' i j (k + 1)
-  filling_next t' r o p e x y l b ad f =
-      rw (add-one k) (filling_more rules S L ws t i j t' k r p x y l (best_picked r p (subst (Best rules S ws t i j k r) e b)) ad f)
+  pub filling_next : (t' : Table P) (x : ℕ) (o : Option P) (p : P) → o ≡ Some p → i ≤ j → j ≤ length ws → (nth rules (get_or tried x 0)).left < 32 → Best rules S ws tried t i j k x o
+      → Adds t t' i j (nth rules (get_or tried x 0)).left p k (get_or tried x 0) → Filling rules S ws dots t i j k → Filling rules S ws dots t' i j (k + 1)
+  filling_next t' x o p e y z l b ad f =
+      rw (add-one k) (filling_more rules S L ws dots t i j tried t' k (get_or tried x 0) p g y z l (best_picked x p (subst (Best rules S ws tried t i j k x) e b)) ad f)

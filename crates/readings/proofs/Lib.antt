@@ -1,8 +1,11 @@
 pub mod Chosen
+pub mod Crossing
 pub mod Cuts
 pub mod Derived
 pub mod Fills
 pub mod Least
+pub mod Listings
+pub mod Live
 pub mod Offering
 pub mod Optimal
 pub mod Places

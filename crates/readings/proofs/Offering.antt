@@ -1,10 +1,7 @@
 -- What rules offer a cell's names: gathered, priced anew, and the cheapest of them. Assumes nothing.
-use Rattle.std.proofs.Common.{◌≡◌, ℕ, suc, ◌+◌, ◌<◌, Bool, ◌⊎◌, List, [], ◌∷◌, length, get_or, Some, None, Option, sym, refl, ap, ◌∙◌, subst, subst₂, inl, inr, add-one, arith, length-take, get_or-take}
-use mathlib.Core.Logic.Dec
+use Rattle.std.proofs.Common.{◌≡◌, ℕ, suc, ◌+◌, ◌<◌, Bool, ◌⊎◌, List, length, get_or, Some, None, Option, sym, refl, ◌∙◌, subst, inl, inr, add-one, arith}
 use mathlib.Core.Logic.{by_cases}
 use native.Mathlib.Decide.{ℕ_discrete}
-use Rattle.grammar.specs.declared.Symbol.{Symbol}
-use Rattle.grammar.specs.declared.Symbol.TheVariants.{Name, Word}
 use Rattle.grammar.specs.declared.Rule.{Rule}
 use Rattle.grammar.specs.Grammar.{right}
 use Rattle.readings.specs.Scales.{Scale, NoDearer, Laws}
@@ -13,111 +10,47 @@ use Rattle.readings.specs.inner.Least.{Lower, Least, cheaper, joined}
 use Rattle.readings.specs.inner.Cuts.{Cuts}
 use Rattle.readings.specs.inner.Tables.{Table, child, Adds}
 use Rattle.readings.specs.inner.Columns.{marked, Written}
-use Rattle.readings.specs.inner.Candidates.{Candidate, Offers, Leads, Best, Untouched, OfferedTo, Offered, Repriced, Within, Foremost}
-use Rattle.readings.proofs.Least.{none_some, no_dearer_refl, least_none, least_same, least_either, lower_joined}
-use Rattle.readings.proofs.Optimal.{child_here, Bounds, bounds_up, bounds_from, bounds_to}
-use Rattle.readings.proofs.Rows.{child_off}
+use Rattle.readings.specs.inner.Candidates.{Candidate, Offers, Leads, Best, Newest, Was, OfferedTo, Offered, Repriced, Within, Foremost}
+use Rattle.readings.proofs.Least.{none_some, no_dearer_refl, least_none, least_either, lower_joined}
+use Rattle.readings.proofs.Optimal.{Bounds, bounds_up, bounds_from, bounds_to}
+use Rattle.readings.proofs.Rows.{least_kept}
+use Rattle.readings.proofs.Crossing.{weighed_same}
 
 -- ---- offers gathered, rule after rule
 
-module _ {P : Type 0} (rules : List Rule) (S : Scale P) (ws : List ℕ) (t : Table P) (i j k : ℕ) where
+module _ {P : Type 0} (rules : List Rule) (S : Scale P) (ws tried : List ℕ) (t : Table P) (i j : ℕ) where
   -- one rule's offer is written
-  pub offered_more : {ps ps' : List P} {bs bs' : List Bool} {o : Option P} (n : ℕ) → Written S ps bs ps' bs' n o → Offers S ws t i j k (nth rules n) o
-      → OfferedTo rules S ws t i j k n (marked S ps bs) → OfferedTo rules S ws t i j k (n + 1) (marked S ps' bs')
-  offered_more {ps} {ps'} {bs} {bs'} n w h f r l =
+  pub offered_more : {ps ps' : List P} {bs bs' : List Bool} {o : Option P} (k n : ℕ) → Written S ps bs ps' bs' n o → Offers S ws t i j k (nth rules (get_or tried n 0)) o
+      → OfferedTo rules S ws tried t i j k n (marked S ps bs) → OfferedTo rules S ws tried t i j k (n + 1) (marked S ps' bs')
+  offered_more {ps} {ps'} {bs} {bs'} k n w h f r l =
       by_cases (ℕ_discrete r n)
-      (λ e. subst (λ (x : ℕ). Offers S ws t i j k (nth rules x) (marked S ps' bs' x)) (sym e) (subst (Offers S ws t i j k (nth rules n)) (sym w.here) h))
-      (λ e. subst (Offers S ws t i j k (nth rules r)) (sym (w.other r e)) (f r (omega arith)))
+      (λ e. subst (λ (x : ℕ). Offers S ws t i j k (nth rules (get_or tried x 0)) (marked S ps' bs' x)) (sym e) (subst (Offers S ws t i j k (nth rules (get_or tried n 0))) (sym w.here) h))
+      (λ e. subst (Offers S ws t i j k (nth rules (get_or tried r 0))) (sym (w.other r e)) (f r (omega arith)))
 
   -- one rule is priced anew
-  pub repriced_more : {ps ps' : List P} {bs bs' : List Bool} {o : Option P} (a n : ℕ) → Written S ps bs ps' bs' n o → Offers S ws t i j k (nth rules n) o
-      → Repriced rules S ws t i j k a n (marked S ps bs) → Repriced rules S ws t i j k a (n + 1) (marked S ps' bs')
-  repriced_more a n w h f =
+  pub repriced_more : {ps ps' : List P} {bs bs' : List Bool} {o : Option P} (k n : ℕ) → Written S ps bs ps' bs' n o → Offers S ws t i j (k + 1) (nth rules (get_or tried n 0)) o
+      → Repriced rules S ws tried t i j k n (marked S ps bs) → Repriced rules S ws tried t i j k (n + 1) (marked S ps' bs')
+  repriced_more k n w h f =
       record {
-        done = offered_more n w h f.done;
-        left = λ r x y u. subst (Offers S ws t i j k (nth rules r)) (sym (w.other r (λ e. omega arith))) (f.left r (omega arith) y u);
+        done = offered_more (k + 1) n w h f.done;
+        left = λ r x y. subst (Was S ws t i j k (nth rules (get_or tried r 0))) (sym (w.other r (λ e. omega arith))) (f.left r (omega arith) y);
       }
 
-  -- one rule keeps its offer
-  pub repriced_same : {col : ℕ → Option P} (a n : ℕ) → n < length rules → Untouched (nth rules n) a → Repriced rules S ws t i j k a n col → Repriced rules S ws t i j k a (n + 1) col
-  repriced_same {col} a n l u f =
-      record {
-        done = λ r x. by_cases (ℕ_discrete r n)
-            (λ e. subst (λ (y : ℕ). Offers S ws t i j k (nth rules y) (col y)) (sym e) (f.left n (omega arith) l u))
-            (λ e. f.done r (omega arith));
-        left = λ r x. f.left r (omega arith);
-      }
-
-  -- the same of lists that are equal
-  pub repriced_as : {ps ps' : List P} {bs bs' : List Bool} (a n : ℕ) → ps' ≡ ps → bs' ≡ bs → Repriced rules S ws t i j k a n (marked S ps bs) → Repriced rules S ws t i j k a n (marked S ps' bs')
-  repriced_as a n e f h = subst₂ (λ (xs : List P) (ys : List Bool). Repriced rules S ws t i j k a n (marked S xs ys)) (sym e) (sym f) h
-
--- ---- what a price of another name leaves
-
--- symbols without the name are cut as before
-pub cuts_lacking : {P : Type 0} (S : Scale P) (ch ch' : Symbol → ℕ → ℕ → Option P) (a : ℕ) → ((x : Symbol) → (x ≡ Name a → ⊥) → (m n : ℕ) → ch x m n ≡ ch' x m n)
-    → (s : List Symbol) → ((d : ℕ) → d < length s → get_or s d (Name 0) ≡ Name a → ⊥) → (m n : ℕ) (q : P) → Cuts S ch s m n q → Cuts S ch' s m n q
-cuts_lacking S ch ch' a f [] h m n q c = c
-cuts_lacking S ch ch' a f (x ∷ s) h m n q c =
-    record {
-      to = c.to;
-      head = c.head;
-      tail = c.tail;
-      ordered = c.ordered;
-      priced = sym (f x (h 0 (omega arith)) m c.to) ∙ c.priced;
-      rest = cuts_lacking S ch ch' a f s (λ d l. h (suc d) (omega arith)) c.to n c.tail c.rest;
-      joins = c.joins;
-    }
-
--- a rule's right side, by its symbols
-right_lacks : (p : Rule) (a : ℕ) → Untouched p a → (d : ℕ) → d < length (right p) → get_or (right p) d (Name 0) ≡ Name a → ⊥
-right_lacks p a u d h e =
-    let l : d < p.len = omega (arith, length-take p.len p.symbols) in
-    u.right d l (sym (get_or-take p.len p.symbols d (Name 0) l) ∙ e)
-
-module _ {P : Type 0} (S : Scale P) (L : Laws S) (ws : List ℕ) (t t' : Table P) (i j a : ℕ) (p : P) (k r : ℕ) (ad : Adds t t' i j a p k r)
-    (ranked : (b : ℕ) (c : P) → t.at i j b ≡ Some c → t.rank i j b < k) where
-  -- the price of any other symbol
-  child_left : (x : Symbol) → (x ≡ Name a → ⊥) → (m n : ℕ) → child S ws t i j k x m n ≡ child S ws t' i j (k + 1) x m n
-  child_left (Word v) d m n = refl
-  child_left (Name b) d m n = by_cases (Dec.and (ℕ_discrete m i) (ℕ_discrete n j)) whole part
-    where
-      other : b ≡ a → ⊥
-      other e = d (ap (λ (x : ℕ). Name x) e)
-
-      kept : (m n : ℕ) → t.at m n b ≡ t'.at m n b
-      kept m n = sym (ad.at_old m n b (λ _ _. other))
-
-      low : (c : P) → t'.at i j b ≡ Some c → t'.rank i j b < k + 1
-      low c e = let l = ranked b c (kept i j ∙ e) in let q = ad.rank_old i j b (λ _ _. other) in omega arith
-
-      whole : (m ≡ i) × (n ≡ j) → child S ws t i j k (Name b) m n ≡ child S ws t' i j (k + 1) (Name b) m n
-      whole e = rw (e.0, e.1) (child_here S ws t i j k b (ranked b) ∙ kept i j ∙ sym (child_here S ws t' i j (k + 1) b low))
-
-      part : ¬ ((m ≡ i) × (n ≡ j)) → child S ws t i j k (Name b) m n ≡ child S ws t' i j (k + 1) (Name b) m n
-      part e = child_off S ws t i j k b m n (λ x y. e (x, y)) ∙ kept m n ∙ sym (child_off S ws t' i j (k + 1) b m n (λ x y. e (x, y)))
-
-  -- a rule that the name leaves offers what it did
-  pub offers_left : (q : Rule) (o : Option P) → Untouched q a → Offers S ws t i j k q o → Offers S ws t' i j (k + 1) q o
-  offers_left q o u h =
-      record {
-        taken = λ c e. h.taken c (sym kept ∙ e);
-        free = λ e. let w = h.free (sym kept ∙ e) in record { cut = w.cut; least = least w.cut w.least; joins = w.joins };
-      }
-    where
-      kept : t'.at i j q.left ≡ t.at i j q.left
-      kept = ad.at_old i j q.left (λ _ _. u.left)
-
-      least : (c : Option P) → Least S (Cuts S (child S ws t i j k) (right q) i j) c → Least S (Cuts S (child S ws t' i j (k + 1)) (right q) i j) c
-      least c l =
-          least_same S L _ _ c
-          (λ x. cuts_lacking S (child S ws t i j k) (child S ws t' i j (k + 1)) a child_left (right q) (right_lacks q a u) i j x)
-          (λ x. cuts_lacking S (child S ws t' i j (k + 1)) (child S ws t i j k) a (λ x d m n. sym (child_left x d m n)) (right q) (right_lacks q a u) i j x)
-          l
+-- a price more leaves what the rules offered before it
+module _ {P : Type 0} (S : Scale P) (L : Laws S) (ws : List ℕ) (t t' : Table P) (i j a : ℕ) (p : P) (k r : ℕ) (ad : Adds t t' i j a p k r) (free : t.at i j a ≡ None) where
+  was : (q : Rule) (o : Option P) → Offers S ws t i j k q o → Was S ws t' i j k q o
+  was q o h e =
+      let n : q.left ≡ a → ⊥ = λ z. none_some (subst (λ (b : ℕ). t'.at i j b ≡ None) z e) ad.at_new in
+      weighed_same S L _ _ q o (λ c. least_kept S ws t t' i j a p k r ad free L i j k (λ _ _. omega arith) (λ _ _. (refl, refl)) (right q) c) (h.free (sym (ad.at_old i j q.left (λ _ _. n)) ∙ e))
 
   -- before any rule is priced anew
-  pub repriced_none : (rules : List Rule) (col : ℕ → Option P) → Offered rules S ws t i j k col → Repriced rules S ws t' i j (k + 1) a 0 col
-  repriced_none rules col f = record { done = λ x l. absurd (let z : ⊥ = omega arith in z); left = λ x _ l u. offers_left (nth rules x) (col x) u (f x l) }
+  pub repriced_none : (rules : List Rule) (tried : List ℕ) (col : ℕ → Option P) → Offered rules S ws tried t i j k col → Repriced rules S ws tried t' i j k 0 col
+  repriced_none rules tried col f = record { done = λ x l. absurd (let z : ⊥ = omega arith in z); left = λ x _ l. was (nth rules (get_or tried x 0)) (col x) (f x l) }
+
+-- the name is the newest of the cell
+module _ {P : Type 0} (t t' : Table P) (i j a : ℕ) (p : P) (k r : ℕ) (ad : Adds t t' i j a p k r) where
+  pub newest_added : ((b : ℕ) (c : P) → t.at i j b ≡ Some c → t.rank i j b < k) → Newest t' i j k a
+  newest_added ranked = record { rank = ad.rank_new; others = λ b c e n. rw (ad.rank_old i j b (λ _ _. n)) (ranked b c (sym (ad.at_old i j b (λ _ _. n)) ∙ e)) }
 
 -- ---- the cheapest offer
 
@@ -145,7 +78,7 @@ module _ {P : Type 0} (S : Scale P) (L : Laws S) (col : ℕ → Option P) where
   foremost_take n r o f r' o' x y h e b =
       rw (add-one n, x, y) (record { least = subst (Least S (Within col (suc n))) e (least_more n o f h b.least); stands = λ p q. (omega arith, sym h ∙ q) })
 
-module _ {P : Type 0} (rules : List Rule) (S : Scale P) (L : Laws S) (ws : List ℕ) (t : Table P) (i j k : ℕ) where
+module _ {P : Type 0} (rules : List Rule) (S : Scale P) (L : Laws S) (ws tried : List ℕ) (t : Table P) (i j k : ℕ) where
   offer_leads : (n : ℕ) (f : Option P) (p : P) → Offers S ws t i j k (nth rules n) f → f ≡ Some p → Leads rules S ws t i j k n p
   offer_leads n f p h e = go (t.at i j (nth rules n).left) refl
     where
@@ -168,13 +101,13 @@ module _ {P : Type 0} (rules : List Rule) (S : Scale P) (L : Laws S) (ws : List 
       lower = let w = h.free c.free in rw w.joins (lower_joined S L (Cuts S (child S ws t i j k) (right (nth rules n)) i j) Here (S.weigh (nth rules n).weight) w.cut (λ x u. u) w.least.lower)
 
   -- the cheapest offer is the best candidate
-  pub foremost_best : (col : ℕ → Option P) (r : ℕ) (o : Option P) → Offered rules S ws t i j k col → Foremost S col (length rules) r o → Best rules S ws t i j k r o
-  foremost_best col r o f h =
+  pub foremost_best : (col : ℕ → Option P) (x : ℕ) (o : Option P) → Offered rules S ws tried t i j k col → Foremost S col (length tried) x o → Best rules S ws tried t i j k x o
+  foremost_best col x o f h =
       record {
-        lower = bounds_to S L _ o (λ q c. through c.0 c.1 (col c.0) refl q (offer_lower c.0 (col c.0) (f c.0 c.1) q c.2));
-        leads = λ p e. let z = h.stands p e in (z.0, offer_leads r (col r) p (f r z.0) z.1);
+        lower = bounds_to S L _ o (λ q c. through c.1.at c.1.within (col c.1.at) refl q (offer_lower c.0 (col c.1.at) (subst (λ (r : ℕ). Offers S ws t i j k (nth rules r) (col c.1.at)) c.1.is (f c.1.at c.1.within)) q c.2));
+        leads = λ p e. let z = h.stands p e in (z.0, offer_leads (get_or tried x 0) (col x) p (f x z.0) z.1);
       }
     where
-      through : (x : ℕ) → x < length rules → (w : Option P) → col x ≡ w → (q : P) → Bounds S w q → Bounds S o q
+      through : (x : ℕ) → x < length tried → (w : Option P) → col x ≡ w → (q : P) → Bounds S w q → Bounds S o q
       through x l None e q b = absurd b
       through x l (Some c) e q b = bounds_up S L o c q b (bounds_from S L _ o h.least.lower c (x, l, e))

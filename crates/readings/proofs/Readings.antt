@@ -10,7 +10,9 @@ use Rattle.readings.specs.Cheapest.{Cheapest, Unread}
 use Rattle.readings.specs.inner.Stretches.{Over}
 use Rattle.readings.specs.inner.Tables.{Table, Filled}
 use Rattle.readings.specs.inner.Places.{packed}
-use Rattle.readings.specs.inner.Stages.{started, Reads, Stage}
+use Rattle.readings.specs.inner.Stages.{Reads, Stage}
+use Rattle.readings.specs.inner.Shown.{started, Shows}
+use Rattle.readings.proofs.Live.{live_start}
 use Rattle.readings.proofs.Walks.{walk_start, walk_single}
 use Rattle.readings.proofs.Derived.{all_over, table_refuses, table_cheapest}
 use Rattle.readings.proofs.Places.{sound_set}
@@ -22,12 +24,12 @@ stage_end {P} {rules} {S} {ws} {t} {a} {st} {out} h e w =
     let s = subst (λ (n : ℕ). Stage rules S ws t a st n out) e w in
     (s.walk.completes, omega (arith, s.walk.fits))
 
-module _ {P : Type 0} (rules : List Rule) (S : Scale P) (L : Laws S) (ws : List ℕ) (t : Table P) (f : Filled rules S ws t (length ws + 2) (length ws + 1)) (a : ℕ) where
-  filled : Filled rules S ws t (length ws + 2) (suc (length ws))
-  filled = subst (Filled rules S ws t (length ws + 2)) (add-one (length ws)) f
+module _ {P : Type 0} (rules : List Rule) (S : Scale P) (L : Laws S) (ws dots : List ℕ) (t : Table P) (f : Filled rules S ws dots t (length ws + 2) (length ws + 1)) (a : ℕ) where
+  filled : Filled rules S ws dots t (length ws + 2) (suc (length ws))
+  filled = subst (Filled rules S ws dots t (length ws + 2)) (add-one (length ws)) f
 
-  pub unread : (before : List ℕ) → t.at 0 (length ws) a ≡ None → Unread (started rules a) ws before before
-  unread before e = record { underived = λ d. table_refuses rules S L ws t (length ws + 2) filled a e d.0 d.1 d.2; same = refl }
+  pub unread : (before : List ℕ) → t.at 0 (length ws) a ≡ None → Shows (started rules a) ws dots → Unread (started rules a) ws before before
+  unread before e h = record { underived = λ d. table_refuses rules S L ws dots t (length ws + 2) filled a (live_start rules ws dots a h) e d.0 d.1 d.2; same = refl }
 
   module _ (c : P) (e : t.at 0 (length ws) a ≡ Some c) where
     whole : (row : Row) → Fits rules (Name a ∷ []) row → Over ws 0 (length ws) row → price rules S row ≡ c → Reads rules S ws t a (form row)
@@ -50,12 +52,12 @@ module _ {P : Type 0} (rules : List Rule) (S : Scale P) (L : Laws S) (ws : List 
     reads_single h = walk_single rules S L ws t f.recorded (Reads rules S ws t a) 0 (length ws) a c e whole (sym h)
 
     -- what is read is cheapest
-    pub reads_cheapest : (before after : List ℕ) (n : ℕ) → Reads rules S ws t a (take n after) → n ≤ length after → n ≤ 9984 → drop n after ≡ drop n before → Cheapest (started rules a) S ws before after n c
-    reads_cheapest before after n w l k d =
+    pub reads_cheapest : (before after : List ℕ) (n : ℕ) → Reads rules S ws t a (take n after) → n ≤ length after → n ≤ 9984 → drop n after ≡ drop n before → Shows (started rules a) ws dots → Cheapest (started rules a) S ws before after n c
+    reads_cheapest before after n w l k d h =
         record {
           derivation = (w.row, w.fits, w.yields);
           costs = let z = w.costs in cc;
-          least = λ d. table_cheapest rules S L ws t (length ws + 2) filled a c e d.0 d.1 d.2;
+          least = λ d. table_cheapest rules S L ws dots t (length ws + 2) filled a (live_start rules ws dots a h) c e d.0 d.1 d.2;
           long = rw (w.forms, length-take n after) (omega arith);
           short = k;
           list = sym (take-append-drop n after) ∙ (rw (w.forms, d));

@@ -16,6 +16,7 @@ use Rattle.readings.specs.inner.Stretches.{Over, Costs}
 use Rattle.readings.specs.inner.Cuts.{Cuts}
 use Rattle.readings.specs.inner.Tables.{Table, child, Made, Recorded, Bounded, Adds}
 use Rattle.readings.specs.inner.Filling.{Before}
+use Rattle.readings.specs.inner.Shown.{Live}
 use Rattle.readings.proofs.Least.{none_some, least_same}
 use Rattle.readings.proofs.Cuts.{cuts_ordered}
 use Rattle.readings.proofs.Stretches.{over_end, over_word, over_tree, stretch_append}
@@ -170,13 +171,13 @@ module _ {P : Type 0} (rules : List Rule) (S : Scale P) (L : Laws S) (ws : List 
   pub below_of : (i j a : ℕ) (c : P) (e : t.at i j a ≡ Some c) → Costs rules S ws (right (nth rules (t.by i j a))) i j (R i j a c e).cut
   below_of i j a c e = below_costs i j a (t.rank i j a) (t.by i j a) c (R i j a c e) (λ m n b p d l. tree_of m n b p d)
 
-  -- a cell that is done has each name's cheapest price
-  pub exact : (i j : ℕ) → Bounded rules S ws t i j → (a : ℕ) → Least S (Costs rules S ws (Name a ∷ []) i j) (t.at i j a)
-  exact i j h a = go (t.at i j a) refl
+  -- a cell that is done has each live name's cheapest price
+  pub exact : (dots : List ℕ) (i j : ℕ) → Bounded rules S ws dots t i j → (a : ℕ) → Live rules ws dots i a → Least S (Costs rules S ws (Name a ∷ []) i j) (t.at i j a)
+  exact dots i j h a v = go (t.at i j a) refl
     where
       go : (o : Option P) → t.at i j a ≡ o → Least S (Costs rules S ws (Name a ∷ []) i j) (t.at i j a)
-      go None e = record { lower = h a; reached = rw e tt }
-      go (Some c) e = record { lower = h a; reached = rw e (tree_of i j a c e) }
+      go None e = record { lower = h a v; reached = rw e tt }
+      go (Some c) e = record { lower = h a v; reached = rw e (tree_of i j a c e) }
 
 -- ---- one price more leaves what earlier entries were made from
 

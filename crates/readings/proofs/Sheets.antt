@@ -4,9 +4,14 @@ use Rattle.grammar.specs.declared.sheet.Sheet.{Sheet}
 use Rattle.grammar.specs.Closure.{AllFormed}
 use Rattle.grammar.specs.View.{rules_of}
 use Rattle.grammar.proofs.Fronts.{formed}
+use Rattle.tables.specs.Columns.{first_place}
+use Rattle.tables.proofs.Dotting.{length_dotted}
 
 pub rules_formed : (s : Sheet) → AllFormed 32 64 (rules_of s)
 rules_formed s = formed s.name_count s.word_count s.rule_count s.rules s.counts.2 s.counts.3 s.lefts s.short s.rights
+
+pub rules_fitting : (s : Sheet) → first_place (rules_of s) (length (rules_of s)) ≤ 256
+rules_fitting s = omega (arith, length_dotted (rules_of s), s.fitting)
 
 pub rules_some : (s : Sheet) → 0 < length (rules_of s)
 rules_some s = omega (arith, s.whole, s.counts.0)

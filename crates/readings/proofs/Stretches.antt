@@ -2,7 +2,8 @@
 use Rattle.std.proofs.Common.{◌≡◌, ℕ, suc, ◌+◌, ◌-◌, ◌<◌, ◌≤◌, List, [], ◌∷◌, ◌++◌, length, get_or, take, drop, sym, ap, ◌∙◌, arith, length-append, length-drop, length-take, drop-cons, drop-drop, take_at, take-add, drop_at}
 use lib.Seq.{take-append_seam, drop-append_seam}
 use Rattle.grammar.specs.Trees.{Row, end, word, tree, yield}
-use Rattle.readings.specs.inner.Stretches.{stretch, Over}
+use Rattle.tables.specs.Table.{stretch}
+use Rattle.readings.specs.inner.Stretches.{Over}
 
 pub stretch_none : (ws : List ℕ) (i : ℕ) → stretch i i ws ≡ []
 stretch_none ws i = ap (λ (n : ℕ). take n (drop i ws)) (let z : i - i ≡ 0 = omega arith in z)

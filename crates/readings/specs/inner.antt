@@ -1,5 +1,6 @@
 pub mod Least
 pub mod Stretches
+pub mod Shown
 pub mod Cuts
 pub mod Tables
 pub mod Columns

@@ -36,7 +36,7 @@ pub(crate) fn write_column<S: Scale>(
 }
 
 // The price of no symbols from n to j.
-fn end_price<S: Scale>(n: usize, j: usize) -> Option<S::Price>
+pub(crate) fn end_price<S: Scale>(n: usize, j: usize) -> Option<S::Price>
     ensures { result ≡ (if nat_eq n j then Some S.Scale.measure.unit else None) }
 {
     if n == j { Some(S::unit()) } else { None }

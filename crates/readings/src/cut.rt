@@ -6,9 +6,9 @@ ghost use Rattle.readings.specs.inner.Columns.{marked, Column};
 ghost use Rattle.readings.specs.inner.Places.{table};
 
 use super::cells::find_place;
-use super::columns::{end_column, read_column, write_column};
+use super::columns::{end_column, end_price, read_column, write_column};
 use super::ground::{Cell, Ground};
-use super::options::{join_both, pick_cheaper};
+use super::options::pick_joined;
 use super::scale::Scale;
 use grammar::{Rule, Symbol};
 
@@ -63,49 +63,67 @@ fn extend<S: Scale>(
     let mut best = None;
     for n in m..cell.j + 1 {
         let first = symbol_price::<S>(ground, cell, x, m, n);
-        best = pick_cheaper::<S>(
-            best,
-            join_both::<S>(first, read_column::<S>(column, marks, n)),
-        );
+        best = pick_joined::<S>(best, first, read_column::<S>(column, marks, n));
     }
     best
 }
 
-// One symbol more, the d-th, at every position from i to j.
+// One symbol more, the d-th, at every position from m to j.
 fn prepend<S: Scale>(
     ground: Ground<S::Price>,
     cell: Cell,
     rule: &Rule,
     d: usize,
+    m: usize,
     column: &mut [S::Price],
     marks: &mut [bool],
 )
-    requires i_le_j { (cell.i ≤ cell.j) × (cell.j ≤ 20) × (cell.j ≤ length ground.words.now) × (7392 ≤ length ground.prices.now) × (7392 ≤ length ground.numbers.now) × (20 < length column.old) × (20 < length marks.old) × (d < rule.now.len) }
+    requires m_le_j { (m ≤ cell.j) × (cell.j ≤ 20) × (cell.j ≤ length ground.words.now) × (7392 ≤ length ground.prices.now) × (7392 ≤ length ground.numbers.now) × (20 < length column.old) × (20 < length marks.old) × (d < rule.now.len) }
     requires formed { Formed 32 64 rule.now }
-    requires column { Column S.Scale.measure ground.words.now (table S.Scale.measure ground.prices.now ground.numbers.now) cell.i cell.j cell.k (drop (d + 1) (right rule.now)) cell.i (marked S.Scale.measure column.old marks.old) }
-    ensures { Column S.Scale.measure ground.entry.words.now (table S.Scale.measure ground.entry.prices.now ground.entry.numbers.now) cell.i cell.j cell.k (drop d (right rule.now)) cell.i (marked S.Scale.measure column.new marks.new) }
+    requires column { Column S.Scale.measure ground.words.now (table S.Scale.measure ground.prices.now ground.numbers.now) cell.i cell.j cell.k (drop (d + 1) (right rule.now)) m (marked S.Scale.measure column.old marks.old) }
+    ensures { Column S.Scale.measure ground.entry.words.now (table S.Scale.measure ground.entry.prices.now ground.entry.numbers.now) cell.i cell.j cell.k (drop d (right rule.now)) m (marked S.Scale.measure column.new marks.new) }
 {
-    for m in cell.i..cell.j + 1 {
-        let best = extend::<S>(ground, cell, rule, d, m, column, marks);
-        write_column::<S>(column, marks, m, best);
+    for n in m..cell.j + 1 {
+        let best = extend::<S>(ground, cell, rule, d, n, column, marks);
+        write_column::<S>(column, marks, n, best);
     }
 }
 
-// The cheapest cuts of the rule's symbols from the d-th on, from every position from i to j.
+// The cheapest cuts of the rule's symbols from the d-th on, from every position from m to j.
 pub(crate) fn cut_from<S: Scale>(
     ground: Ground<S::Price>,
     cell: Cell,
     rule: &Rule,
     d: usize,
+    m: usize,
     column: &mut [S::Price],
     marks: &mut [bool],
 )
-    requires i_le_j { (cell.i ≤ cell.j) × (cell.j ≤ 20) × (cell.j ≤ length ground.words.now) × (7392 ≤ length ground.prices.now) × (7392 ≤ length ground.numbers.now) × (20 < length column.old) × (20 < length marks.old) × (d ≤ rule.now.len) }
+    requires m_le_j { (m ≤ cell.j) × (cell.j ≤ 20) × (cell.j ≤ length ground.words.now) × (7392 ≤ length ground.prices.now) × (7392 ≤ length ground.numbers.now) × (20 < length column.old) × (20 < length marks.old) × (d ≤ rule.now.len) }
     requires formed { Formed 32 64 rule.now }
-    ensures { Column S.Scale.measure ground.entry.words.now (table S.Scale.measure ground.entry.prices.now ground.entry.numbers.now) cell.i cell.j cell.k (drop d (right rule.now)) cell.i (marked S.Scale.measure column.new marks.new) }
+    ensures { Column S.Scale.measure ground.entry.words.now (table S.Scale.measure ground.entry.prices.now ground.entry.numbers.now) cell.i cell.j cell.k (drop d (right rule.now)) m (marked S.Scale.measure column.new marks.new) }
 {
-    end_column::<S>(cell.i, cell.j, column, marks);
+    end_column::<S>(m, cell.j, column, marks);
     for e in (d..rule.len as usize).rev() {
-        prepend::<S>(ground, cell, rule, e, column, marks);
+        prepend::<S>(ground, cell, rule, e, m, column, marks);
     }
+}
+
+// The cheapest cut of all the rule's symbols from i to j: the first symbol's stretch begins nowhere else.
+pub(crate) fn cut_all<S: Scale>(
+    ground: Ground<S::Price>,
+    cell: Cell,
+    rule: &Rule,
+    column: &mut [S::Price],
+    marks: &mut [bool],
+) -> Option<S::Price>
+    requires i_le_j { (cell.i ≤ cell.j) × (cell.j ≤ 20) × (cell.j ≤ length ground.words.now) × (7392 ≤ length ground.prices.now) × (7392 ≤ length ground.numbers.now) × (20 < length column.old) × (20 < length marks.old) }
+    requires formed { Formed 32 64 rule.now }
+    ensures { CutAt S.Scale.measure ground.entry.words.now (table S.Scale.measure ground.entry.prices.now ground.entry.numbers.now) cell.i cell.j cell.k (right rule.now) cell.i result }
+{
+    if rule.len == 0 {
+        return end_price::<S>(cell.i, cell.j);
+    }
+    cut_from::<S>(ground, cell, rule, 1, cell.i, column, marks);
+    extend::<S>(ground, cell, rule, 0, cell.i, column, marks)
 }

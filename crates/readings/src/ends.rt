@@ -57,6 +57,6 @@ pub(crate) fn find_end<S: Scale>(
     ensures { (c : _) → CutAt S.Scale.measure ground.entry.words.now (table S.Scale.measure ground.entry.prices.now ground.entry.numbers.now) cell.i cell.j cell.k (slice_index_or rule.now.symbols d (Symbol.Name 0) ∷ drop (d + 1) (right rule.now)) m (Some c)
         → Chosen S.Scale.measure ground.entry.words.now (table S.Scale.measure ground.entry.prices.now ground.entry.numbers.now) cell.i cell.j cell.k m (slice_index_or rule.now.symbols d (Symbol.Name 0)) (drop (d + 1) (right rule.now)) result }
 {
-    cut_from::<S>(ground, cell, rule, d + 1, column, marks);
+    cut_from::<S>(ground, cell, rule, d + 1, m, column, marks);
     choose::<S>(ground, cell, rule, d, m, column, marks)
 }

@@ -1,6 +1,13 @@
-// What prices are read off: the words with their table, and a cell of it.
+// What prices are read off: the words with their tables, and a cell.
 
-// The words, and of their table the prices and the numbers.
+// The words standing, and the table of their dotted rules.
+#[derive(Clone, Copy)]
+pub struct Standing<'w, 'd> {
+    pub words: &'w [u8],
+    pub dots: &'d [u64],
+}
+
+// The words, and of their table of prices the prices and the numbers.
 #[derive(Clone, Copy)]
 pub struct Ground<'a, P> {
     pub words: &'a [u8],

@@ -1,6 +1,7 @@
 // Scales of prices, and the cheapest reading of words on a sheet.
 #![tactic(auto)]
 
+mod across;
 mod cells;
 mod columns;
 mod cut;
@@ -11,4 +12,5 @@ mod offers;
 mod options;
 pub mod read;
 pub mod scale;
+mod shown;
 mod walk;

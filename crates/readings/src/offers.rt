@@ -1,34 +1,34 @@
 // What rules offer the names of a cell: candidates for their prices.
-ghost use Rattle.std.specs.Prelude.{◌≡◌, ◌<◌, ◌≤◌, false, length, Some, ◌≢◌};
+ghost use Rattle.std.specs.Prelude.{◌≡◌, ℕ, ◌+◌, ◌<◌, ◌≤◌, length, slice_index};
 ghost use Rattle.grammar.specs.Grammar.{Formed};
 ghost use Rattle.grammar.specs.Closure.{AllFormed};
-ghost use Rattle.readings.specs.inner.Least.{joined};
 ghost use Rattle.readings.specs.inner.Columns.{marked};
-ghost use Rattle.readings.specs.inner.Candidates.{Offers, Untouched, Offered, Repriced, Foremost};
+ghost use Rattle.readings.specs.inner.Candidates.{Weighed, Offers, Newest, Was, Offered, Repriced, Foremost};
 ghost use Rattle.readings.specs.inner.Places.{table};
 
+use super::across::{improve, touches};
 use super::cells::has_price;
 use super::columns::{read_column, write_column};
-use super::cut::cut_from;
+use super::cut::cut_all;
 use super::ground::{Cell, Ground};
 use super::options::{improves, join_both};
 use super::scale::Scale;
-use grammar::{Rule, Symbol};
+use grammar::Rule;
 
-// The rule's weight joined with the column's price at i.
-fn weigh_in<S: Scale>(
+// The rule's weight joined with its cheapest cut over (i, j).
+fn weigh_cut<S: Scale>(
+    ground: Ground<S::Price>,
+    cell: Cell,
     rule: &Rule,
-    column: &[S::Price],
-    marks: &[bool],
-    i: usize,
+    column: &mut [S::Price],
+    marks: &mut [bool],
 ) -> Option<S::Price>
-    requires { (i < length column.now) × (i < length marks.now) }
-    ensures { result ≡ joined S.Scale.measure (Some (S.Scale.measure.weigh rule.now.weight)) (marked S.Scale.measure column.now marks.now i) }
+    requires i_le_j { (cell.i ≤ cell.j) × (cell.j ≤ 20) × (cell.j ≤ length ground.words.now) × (7392 ≤ length ground.prices.now) × (7392 ≤ length ground.numbers.now) × (20 < length column.old) × (20 < length marks.old) }
+    requires formed { Formed 32 64 rule.now }
+    ensures { Weighed S.Scale.measure ground.entry.words.now (table S.Scale.measure ground.entry.prices.now ground.entry.numbers.now) cell.i cell.j cell.k rule.now result }
 {
-    join_both::<S>(
-        Some(S::weigh(rule.weight)),
-        read_column::<S>(column, marks, i),
-    )
+    let cut = cut_all::<S>(ground, cell, rule, column, marks);
+    join_both::<S>(Some(S::weigh(rule.weight)), cut)
 }
 
 // What the rule offers its left name over (i, j).
@@ -52,13 +52,13 @@ fn offer_of<S: Scale>(
     ) {
         return None;
     }
-    cut_from::<S>(ground, cell, rule, 0, column, marks);
-    weigh_in::<S>(rule, column, marks, cell.i)
+    weigh_cut::<S>(ground, cell, rule, column, marks)
 }
 
-// Every rule's offer, each at the rule's number.
+// The offer of each rule tried, at its position among them.
 pub(crate) fn offer_all<S: Scale>(
     rules: &[Rule],
+    tried: &[u8],
     ground: Ground<S::Price>,
     cell: Cell,
     column: &mut [S::Price],
@@ -66,45 +66,50 @@ pub(crate) fn offer_all<S: Scale>(
     offers: &mut [S::Price],
     offered: &mut [bool],
 )
-    requires i_le_j { (cell.i ≤ cell.j) × (cell.j ≤ 20) × (cell.j ≤ length ground.words.now) × (7392 ≤ length ground.prices.now) × (7392 ≤ length ground.numbers.now) × (20 < length column.old) × (20 < length marks.old) × (length rules.now ≤ length offers.old) × (length rules.now ≤ length offered.old) }
-    requires all_formed { AllFormed 32 64 rules.now }
-    ensures { Offered rules.now S.Scale.measure ground.entry.words.now (table S.Scale.measure ground.entry.prices.now ground.entry.numbers.now) cell.i cell.j cell.k (marked S.Scale.measure offers.new offered.new) }
+    requires bounds { (cell.i ≤ cell.j) × (cell.j ≤ 20) × (cell.j ≤ length ground.words.now) × (7392 ≤ length ground.prices.now) × (7392 ≤ length ground.numbers.now) × (20 < length column.old) × (20 < length marks.old) × (length tried.now ≤ length offers.old) × (length tried.now ≤ length offered.old) }
+    requires formed { AllFormed 32 64 rules.now }
+    requires listed { (x : ℕ) → x < length tried.now → slice_index tried.now x < length rules.now }
+    ensures { Offered rules.now S.Scale.measure ground.entry.words.now tried.now (table S.Scale.measure ground.entry.prices.now ground.entry.numbers.now) cell.i cell.j cell.k (marked S.Scale.measure offers.new offered.new) }
 {
-    for r in 0..rules.len() {
-        let offer = offer_of::<S>(ground, cell, &rules[r], column, marks);
-        write_column::<S>(offers, offered, r, offer);
+    for x in 0..tried.len() {
+        let offer = offer_of::<S>(ground, cell, &rules[tried[x] as usize], column, marks);
+        write_column::<S>(offers, offered, x, offer);
     }
 }
 
-// Whether the symbol is the name a.
-fn is_name(x: Symbol, a: usize) -> bool
-    ensures { result ≡ false → x ≢ Symbol.Name a }
+// What the rule offers after the name a has got its price over (i, j), as the k-th. An empty stretch is cut anew: every symbol of a rule is all of it.
+fn renew<S: Scale>(
+    ground: Ground<S::Price>,
+    cell: Cell,
+    rule: &Rule,
+    a: usize,
+    offer: Option<S::Price>,
+    column: &mut [S::Price],
+    marks: &mut [bool],
+) -> Option<S::Price>
+    requires bounds { (cell.i ≤ cell.j) × (cell.j ≤ 20) × (cell.j ≤ length ground.words.now) × (7392 ≤ length ground.prices.now) × (7392 ≤ length ground.numbers.now) × (20 < length column.old) × (20 < length marks.old) × (cell.k < 32) }
+    requires formed { Formed 32 64 rule.now }
+    requires newest { Newest (table S.Scale.measure ground.prices.now ground.numbers.now) cell.i cell.j cell.k a }
+    requires was { Was S.Scale.measure ground.words.now (table S.Scale.measure ground.prices.now ground.numbers.now) cell.i cell.j cell.k rule.now offer }
+    ensures { Offers S.Scale.measure ground.entry.words.now (table S.Scale.measure ground.entry.prices.now ground.entry.numbers.now) cell.i cell.j (cell.k + 1) rule.now result }
 {
-    match x {
-        Symbol::Word(_) => false,
-        Symbol::Name(b) => b as usize == a,
+    let Cell { i, j, k } = cell;
+    if has_price::<S>(ground.prices, ground.numbers, i, j, rule.left as usize) {
+        return None;
     }
+    if i < j {
+        return improve::<S>(ground, cell, rule, a, offer);
+    }
+    if !touches(rule, a) {
+        return offer;
+    }
+    weigh_cut::<S>(ground, Cell { i, j, k: k + 1 }, rule, column, marks)
 }
 
-// Whether the name a stands on a side of the rule, so that its price may change what the rule offers.
-fn touches(rule: &Rule, a: usize) -> bool
-    requires { rule.now.len ≤ 8 }
-    ensures { result ≡ false → Untouched rule.now a }
-{
-    if rule.left as usize == a {
-        return true;
-    }
-    for d in 0..rule.len as usize {
-        if is_name(rule.symbols[d], a) {
-            return true;
-        }
-    }
-    false
-}
-
-// Prices the rules anew that the name a touches, after it has got its price over (i, j).
+// Prices the rules tried anew, after the name a has got its price over (i, j), as the k-th.
 pub(crate) fn reprice<S: Scale>(
     rules: &[Rule],
+    tried: &[u8],
     ground: Ground<S::Price>,
     cell: Cell,
     a: usize,
@@ -113,23 +118,32 @@ pub(crate) fn reprice<S: Scale>(
     offers: &mut [S::Price],
     offered: &mut [bool],
 )
-    requires i_le_j { (cell.i ≤ cell.j) × (cell.j ≤ 20) × (cell.j ≤ length ground.words.now) × (7392 ≤ length ground.prices.now) × (7392 ≤ length ground.numbers.now) × (20 < length column.old) × (20 < length marks.old) × (length rules.now ≤ length offers.old) × (length rules.now ≤ length offered.old) }
-    requires all_formed { AllFormed 32 64 rules.now }
-    requires repriced { Repriced rules.now S.Scale.measure ground.words.now (table S.Scale.measure ground.prices.now ground.numbers.now) cell.i cell.j cell.k a 0 (marked S.Scale.measure offers.old offered.old) }
-    ensures { Offered rules.now S.Scale.measure ground.entry.words.now (table S.Scale.measure ground.entry.prices.now ground.entry.numbers.now) cell.i cell.j cell.k (marked S.Scale.measure offers.new offered.new) }
+    requires bounds { (cell.i ≤ cell.j) × (cell.j ≤ 20) × (cell.j ≤ length ground.words.now) × (7392 ≤ length ground.prices.now) × (7392 ≤ length ground.numbers.now) × (20 < length column.old) × (20 < length marks.old) × (length tried.now ≤ length offers.old) × (length tried.now ≤ length offered.old) × (cell.k < 32) }
+    requires formed { AllFormed 32 64 rules.now }
+    requires listed { (x : ℕ) → x < length tried.now → slice_index tried.now x < length rules.now }
+    requires newest { Newest (table S.Scale.measure ground.prices.now ground.numbers.now) cell.i cell.j cell.k a }
+    requires repriced { Repriced rules.now S.Scale.measure ground.words.now tried.now (table S.Scale.measure ground.prices.now ground.numbers.now) cell.i cell.j cell.k 0 (marked S.Scale.measure offers.old offered.old) }
+    ensures { Offered rules.now S.Scale.measure ground.entry.words.now tried.now (table S.Scale.measure ground.entry.prices.now ground.entry.numbers.now) cell.i cell.j (cell.k + 1) (marked S.Scale.measure offers.new offered.new) }
 {
-    for r in 0..rules.len() {
-        if touches(&rules[r], a) {
-            let offer = offer_of::<S>(ground, cell, &rules[r], column, marks);
-            write_column::<S>(offers, offered, r, offer);
-        }
+    for x in 0..tried.len() {
+        let old = read_column::<S>(offers, offered, x);
+        let offer = renew::<S>(
+            ground,
+            cell,
+            &rules[tried[x] as usize],
+            a,
+            old,
+            column,
+            marks,
+        );
+        write_column::<S>(offers, offered, x, offer);
     }
 }
 
-// A rule, and its price as a candidate.
+// A position among the rules tried, and the price of the rule there as a candidate.
 #[derive(Clone, Copy)]
 pub struct Pick<P> {
-    pub rule: usize,
+    pub at: usize,
     pub price: Option<P>,
 }
 
@@ -140,7 +154,7 @@ pub(crate) fn cheapest_offer<S: Scale>(
     n: usize,
 ) -> Pick<S::Price>
     requires { (n ≤ length offers.now) × (n ≤ length offered.now) }
-    ensures { Foremost S.Scale.measure (marked S.Scale.measure offers.now offered.now) n result.rule result.price }
+    ensures { Foremost S.Scale.measure (marked S.Scale.measure offers.now offered.now) n result.at result.price }
 {
     let mut best = None;
     let mut at = 0;
@@ -151,8 +165,5 @@ pub(crate) fn cheapest_offer<S: Scale>(
             at = r;
         }
     }
-    Pick {
-        rule: at,
-        price: best,
-    }
+    Pick { at, price: best }
 }

@@ -30,6 +30,33 @@ pub(crate) fn join_both<S: Scale>(a: Option<S::Price>, b: Option<S::Price>) -> O
     }
 }
 
+// The cheaper of the best so far and of two prices' join, in one step: this is the innermost of all loops.
+pub(crate) fn pick_joined<S: Scale>(
+    best: Option<S::Price>,
+    first: Option<S::Price>,
+    rest: Option<S::Price>,
+) -> Option<S::Price>
+    ensures { result ≡ cheaper S.Scale.measure best (joined S.Scale.measure first rest) }
+{
+    match rest {
+        None => best,
+        Some(q) => match first {
+            None => best,
+            Some(p) => {
+                let both = S::join(p, q);
+                match best {
+                    None => Some(both),
+                    Some(b) => if S::no_dearer(b, both) {
+                        Some(b)
+                    } else {
+                        Some(both)
+                    },
+                }
+            }
+        },
+    }
+}
+
 // Whether the offer is there and cheaper than the best so far.
 pub(crate) fn improves<S: Scale>(best: Option<S::Price>, offer: Option<S::Price>) -> bool
     ensures no { result ≡ false → cheaper S.Scale.measure best offer ≡ best }

@@ -2,7 +2,6 @@
 use Rattle.std.specs.Prelude.{◌≡◌, ℕ, ◌/◌, ◌%◌, ◌<◌, ◌≤◌, List, [], ◌∷◌, length, drop, Some}
 use Rattle.grammar.specs.declared.Symbol.TheVariants.{Name}
 use Rattle.grammar.specs.declared.Rule.{Rule}
-use Rattle.grammar.specs.Grammar.{Grammar}
 use Rattle.grammar.specs.Trees.{Row, yield, Fits}
 use Rattle.readings.specs.Scales.{Scale}
 use Rattle.readings.specs.Prices.{price, form}
@@ -41,7 +40,3 @@ pub record Longer (xs : List ℕ) (n : ℕ) (xs' : List ℕ) (n' : ℕ) : Type 0
   pub more : n ≤ n'
   pub within : n' ≤ length xs'
   pub rest : drop n' xs' ≡ drop n' xs
-
--- the rules with the name that commands start from
-abbrev pub started : List Rule → ℕ → Grammar
-started rules a = record { rules = rules; start = a }

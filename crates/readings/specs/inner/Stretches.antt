@@ -1,14 +1,11 @@
 -- Stretches of the words, and what rows over them cost. Assumes nothing.
-use Rattle.std.specs.Prelude.{◌≡◌, ℕ, ◌-◌, ◌≤◌, List, length, take, drop}
+use Rattle.std.specs.Prelude.{◌≡◌, ℕ, ◌≤◌, List, length}
 use Rattle.grammar.specs.declared.Symbol.{Symbol}
 use Rattle.grammar.specs.declared.Rule.{Rule}
 use Rattle.grammar.specs.Trees.{Row, yield, Fits}
+use Rattle.tables.specs.Table.{stretch}
 use Rattle.readings.specs.Scales.{Scale}
 use Rattle.readings.specs.Prices.{price}
-
--- words i + 1 to j
-abbrev pub stretch : ℕ → ℕ → List ℕ → List ℕ
-stretch i j ws = take (j - i) (drop i ws)
 
 -- the row stands over words i + 1 to j
 pub record Over (ws : List ℕ) (i j : ℕ) (row : Row) : Type 0 where

@@ -8,6 +8,7 @@ use Rattle.readings.specs.Scales.{Scale}
 use Rattle.readings.specs.Prices.{nth}
 use Rattle.readings.specs.inner.Least.{Lower, Least}
 use Rattle.readings.specs.inner.Stretches.{Costs}
+use Rattle.readings.specs.inner.Shown.{Live}
 use Rattle.readings.specs.inner.Cuts.{Cuts}
 
 -- of each name over each stretch from i to j: its price, if it has one; its rank in the cell and its rule
@@ -34,9 +35,9 @@ pub record Chosen {P : Type 0} (S : Scale P) (ws : List ℕ) (t : Table P) (i j 
   pub least : Least S (Cuts S (child S ws t i j k) s to j) (Some tail)
   pub whole : Least S (Cuts S (child S ws t i j k) (x ∷ s) m j) (Some (S.join head tail))
 
--- no tree for a name over words i + 1 to j is cheaper than the table has it, and a name that the table does not have there has no tree
-abbrev pub Bounded : {P : Type 0} → List Rule → Scale P → List ℕ → Table P → ℕ → ℕ → Type 0
-Bounded rules S ws t i j = (a : ℕ) → Lower S (Costs rules S ws (Name a ∷ []) i j) (t.at i j a)
+-- no tree for a name that is live at i over words i + 1 to j is cheaper than the table has it, and such a name that the table does not have there has no tree
+abbrev pub Bounded : {P : Type 0} → List Rule → Scale P → List ℕ → List ℕ → Table P → ℕ → ℕ → Type 0
+Bounded rules S ws dots t i j = (a : ℕ) → Live rules ws dots i a → Lower S (Costs rules S ws (Name a ∷ []) i j) (t.at i j a)
 
 -- the second table has one price more: the name a over (i, j) at the price p, of rank k, by rule r
 pub record Adds {P : Type 0} (t t' : Table P) (i j a : ℕ) (p : P) (k r : ℕ) : Type 0 where
@@ -67,7 +68,7 @@ abbrev pub Earlier : ℕ → ℕ → ℕ → ℕ → Type 0
 Earlier i j m n = j ≤ n → (n ≡ j) × (i ≤ m)
 
 -- the cells before column j, and of column j those from i on, are done, and the others are empty
-pub record Filled {P : Type 0} (rules : List Rule) (S : Scale P) (ws : List ℕ) (t : Table P) (i j : ℕ) : Type 0 where
-  pub done : (m n : ℕ) → m ≤ n → Earlier i j m n → Bounded rules S ws t m n
+pub record Filled {P : Type 0} (rules : List Rule) (S : Scale P) (ws dots : List ℕ) (t : Table P) (i j : ℕ) : Type 0 where
+  pub done : (m n : ℕ) → m ≤ n → Earlier i j m n → Bounded rules S ws dots t m n
   pub only : (m n a : ℕ) (c : P) → t.at m n a ≡ Some c → Earlier i j m n
   pub recorded : Recorded rules S ws t

@@ -1,7 +1,7 @@
 use Rattle.std.proofs.Common.{get_or, take, arith}
 use Rattle.seats.proofs.Records.{seat_count}
 use Rattle.seats.proofs.SeatLent.{not_passed}
-use Rattle.reader.proofs.Copies.{last_column, copied, reads, reads_none}
+use Rattle.reader.proofs.Copies.{last_column, tabled, copied, reads, reads_none}
 use Rattle.reader.proofs.read.read_seat.Goals as goal
 
 pub returns-then-not-is_command : goal.returns-then-not-is_command
@@ -19,7 +19,8 @@ returns g c = λ ws stand.
     let words = c.copy_words-words.result in
     let last = c.write_reading.new in
     let command = (c.is_command.ensures ws (seat_count s ws xs stand) (last_column s ws xs stand)).0 c.if-not-is_command.false in
+    let same = copied s ws xs stand words (omega arith) c.copy_words-words.ensures in
     reads s g.C.Scale.measure ws (take (get_or xs 0 0) words)
     (record { list = c.args.list.now; prices = c.args.prices.now; numbers = c.args.numbers.now })
     (record { list = last.list; prices = last.prices; numbers = last.numbers })
-    c.write_reading.result c.write_reading.ensures command (copied s ws xs stand words (omega arith) c.copy_words-words.ensures)
+    c.write_reading.result (c.write_reading.ensures (tabled s ws xs stand (take (get_or xs 0 0) words) same)) command same

@@ -12,8 +12,8 @@ symbol_price-first-requires g c = (record { m_le_n = (omega arith, omega arith, 
 
 pub loop-n-preserved : goal.loop-n-preserved
 loop-n-preserved g c =
-    cut_turn g.S.Scale.measure g.met.S.Scale.lawful _ _ _ _ _ c.loop-n.n c.loop-n.best c.symbol_price-first.result c.read_column.result c.join_both.result c.pick_cheaper-best.result
-    c.loop-n.auto.n c.symbol_price-first.ensures c.join_both.ensures c.pick_cheaper-best.ensures c.loop-n.invariant
+    cut_turn g.S.Scale.measure g.met.S.Scale.lawful _ _ _ _ _ c.loop-n.n c.loop-n.best c.symbol_price-first.result c.read_column.result c.pick_joined-best.result
+    c.loop-n.auto.n c.symbol_price-first.ensures c.pick_joined-best.ensures c.loop-n.invariant
     (subst (Least g.S.Scale.measure _) (sym c.read_column.ensures) (rw (add-one c.args.d) at (c.requires.column c.loop-n.n c.loop-n.auto.n (omega arith))))
 
 pub returns : goal.returns

@@ -1,27 +1,16 @@
-use Rattle.std.proofs.Common.{◌≡◌, add-one, arith}
-use Rattle.readings.proofs.Fills.{filling_start, filling_done, filling_full}
+use Rattle.std.proofs.Common.{ℕ, List, take, subst, arith, length-take-le}
+use Rattle.readings.specs.inner.Shown.{Tried}
+use Rattle.readings.proofs.Listings.{listing_tried}
 use Rattle.readings.proofs.fill.fill_cell.Goals as goal
 
-pub loop-k-init : goal.loop-k-init
-loop-k-init g c = (filling_start c.args.rules.now g.S.Scale.measure g.met.S.Scale.lawful _ _ _ _ (rw (add-one c.args.i) at c.requires.filled), c.offer_all.ensures, omega arith)
-
-pub price_next-requires : goal.price_next-requires
-price_next-requires g c =
+pub fill_tried-requires : goal.fill_tried-requires
+fill_tried-requires g c =
+    let n = c.list_complete-count.result in
+    let e = length-take-le n c.list_complete-count.new.list (omega arith) in
     record {
-      bounds = (omega arith, omega arith, omega arith, omega arith, omega arith, omega arith, omega arith, omega arith, omega arith, omega arith, omega arith);
-      formed = c.requires.all_formed;
-      filling = c.loop-k.invariant.0;
-      gathered = c.loop-k.invariant.1;
+      bounds = (omega arith, omega arith, omega arith, omega arith, omega arith, omega arith, omega arith, omega arith, omega arith, omega arith);
+      formed = c.requires.formed;
+      tried = subst (λ (xs : List ℕ). Tried c.args.rules.now xs (take n c.list_complete-count.new.list)) c.cell_items.ensures
+          (listing_tried c.args.rules.now c.cell_items.result.words n c.list_complete-count.new.list (omega arith) c.list_complete-count.ensures.listing);
+      filled = c.requires.filled;
     }
-
-pub returns-then-not-price_next : goal.returns-then-not-price_next
-returns-then-not-price_next g c = c.price_next.ensures.last c.if-not-price_next.true
-
-pub loop-k-preserved : goal.loop-k-preserved
-loop-k-preserved g c = (c.price_next.ensures.filling c.if-not-price_next.false, c.price_next.ensures.gathered c.if-not-price_next.false, omega arith)
-
-pub returns : goal.returns
-returns g c =
-    let e : c.loop-k.k ≡ 32 = omega arith in
-    let f = rw e at c.loop-k.invariant.0 in
-    filling_done c.args.rules.now g.S.Scale.measure g.met.S.Scale.lawful _ _ _ _ 32 f (filling_full c.args.rules.now g.S.Scale.measure g.met.S.Scale.lawful _ _ _ _ f (λ r h. (c.requires.all_formed r h).0))

@@ -6,4 +6,4 @@ use Rattle.readings.proofs.fill.fill_table.Given as goal
 abbrev pub invariant-loop-j : goal.invariant-loop-j
 invariant-loop-j g l =
     (length l.marks ≡ 21)
-    × Filled l.rules g.S.Scale.measure l.words (table g.S.Scale.measure l.prices l.numbers) (l.j + 1) l.j
+    × Filled l.rules g.S.Scale.measure l.standing.words.now l.standing.dots.now (table g.S.Scale.measure l.prices l.numbers) (l.j + 1) l.j

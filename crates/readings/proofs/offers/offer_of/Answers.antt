@@ -1,5 +1,4 @@
-use Rattle.std.proofs.Common.{refl, arith}
-use Rattle.readings.specs.inner.Columns.{marked}
+use Rattle.std.proofs.Common.{refl}
 use Rattle.readings.proofs.Least.{none_some}
 use Rattle.readings.proofs.offers.offer_of.Goals as goal
 
@@ -7,13 +6,4 @@ pub returns-then-has_price : goal.returns-then-has_price
 returns-then-has_price g c = record { taken = λ p e. refl; free = λ e. absurd (c.has_price.ensures.yes c.if-has_price.true e) }
 
 pub returns : goal.returns
-returns g c =
-    record {
-      taken = λ p e. absurd (none_some (c.has_price.ensures.no c.if-has_price.false) e);
-      free = λ e.
-          record {
-            cut = marked g.S.Scale.measure c.cut_from.new.column c.cut_from.new.marks c.args.cell.i;
-            least = c.cut_from.ensures c.args.cell.i (omega arith) (omega arith);
-            joins = c.weigh_in.ensures;
-          };
-    }
+returns g c = record { taken = λ p e. absurd (none_some (c.has_price.ensures.no c.if-has_price.false) e); free = λ e. c.weigh_cut.ensures }
