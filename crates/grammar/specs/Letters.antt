@@ -1,7 +1,6 @@
 -- The characters of names and words. Assumes nothing.
 use Rattle.std.specs.Prelude.{ℕ, Bool, true, false, not, ◌&&◌, ◌||◌, List, [], ◌∷◌, ◌==◌, nat_le}
-use Rattle.grammar.specs.declared.letters.Class.{Class}
-use Rattle.grammar.specs.declared.letters.Class.TheVariants.{Digit, InName, InWord}
+use Rattle.std.specs.List.{list_all}
 
 abbrev pub digit : ℕ → Bool
 digit c = nat_le 48 c && nat_le c 57
@@ -20,14 +19,8 @@ in_name c = small c || digit c
 abbrev pub in_word : ℕ → Bool
 in_word c = in_name c || c == 45
 
-abbrev pub belongs : Class → ℕ → Bool
-belongs Digit c = digit c
-belongs InName c = in_name c
-belongs InWord c = in_word c
-
 abbrev pub every : (ℕ → Bool) → List ℕ → Bool
-every p [] = true
-every p (c ∷ cs) = p c && every p cs
+every p cs = list_all p cs
 
 abbrev pub empty : List ℕ → Bool
 empty [] = true

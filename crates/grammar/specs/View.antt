@@ -8,20 +8,20 @@ use Rattle.grammar.specs.Grammar.{Grammar, no_rule, right}
 use Rattle.grammar.specs.Limits.{texts}
 
 abbrev pub rules_of : Sheet → List Rule
-rules_of s = take s.rule_count s.rules
+rules_of s = take s.draft.rules.len s.draft.rules.items
 
 -- the left name of the first rule is the start
 abbrev pub grammar_of : Sheet → Grammar
 grammar_of s = record { rules = rules_of s; start = (slice_index_or (rules_of s) 0 no_rule).left }
 
 abbrev pub names_in : Sheet → List (List ℕ)
-names_in s = texts s.name_count s.names
+names_in s = texts s.draft.names.len s.draft.names.items
 
 abbrev pub words_in : Sheet → List (List ℕ)
-words_in s = texts s.word_count s.words
+words_in s = texts s.draft.words.len s.draft.words.items
 
 abbrev pub aliases_in : Sheet → List Alias
-aliases_in s = take s.alias_count s.aliases
+aliases_in s = take s.draft.aliases.len s.draft.aliases.items
 
 -- a rule without the unused part of its array
 pub record Plain : Type 0 where
@@ -38,7 +38,7 @@ pub record Alike (s t : Sheet) : Type 0 where
   pub words : words_in s ≡ words_in t
   pub rules : map plain (rules_of s) ≡ map plain (rules_of t)
   pub aliases : aliases_in s ≡ aliases_in t
-  pub fillers : s.fillers ≡ t.fillers
+  pub fillers : s.draft.fillers ≡ t.draft.fillers
 
 -- one rule, weight 0, name `A`, no symbols; nothing else
 pub record Blank (s : Sheet) : Type 0 where
@@ -46,4 +46,4 @@ pub record Blank (s : Sheet) : Type 0 where
   pub names : names_in s ≡ (65 ∷ []) ∷ []
   pub words : words_in s ≡ []
   pub aliases : aliases_in s ≡ []
-  pub fillers : s.fillers ≡ 0
+  pub fillers : s.draft.fillers ≡ 0

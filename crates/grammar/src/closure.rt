@@ -1,15 +1,14 @@
 // Which names have trees: a closure over the rules.
 ghost use Rattle.std.specs.Prelude.{◌≡◌, ℕ, ◌+◌, ◌^◌, ◌<◌, ◌≤◌, length};
-ghost use Rattle.grammar.specs.Grammar.{Counted, Formed, right};
+ghost use Rattle.grammar.specs.Grammar.{right};
 ghost use Rattle.grammar.specs.Closure.{AllFormed, Nullables};
 ghost use Rattle.grammar.specs.inner.Closing.{known, all_known, Closed, Backed, Exactly, Treeless};
 
-use super::bits::{holds, with};
 use super::{Rule, Symbol};
+use items::few::{holds, with};
 
 // Whether the name is in the set; words are known or not, all alike.
-fn is_known(symbol: Symbol, set: u32, words: bool) -> bool
-    requires { Counted 32 64 symbol }
+fn is_known(symbol: Symbol, set: u64, words: bool) -> bool
     ensures { result ≡ known set words symbol }
 {
     match symbol {
@@ -19,20 +18,17 @@ fn is_known(symbol: Symbol, set: u32, words: bool) -> bool
 }
 
 // Whether every symbol on the rule's right side is known.
-fn is_ready(rule: &Rule, set: u32, words: bool) -> bool
-    requires { Formed 32 64 rule.now }
+fn is_ready(rule: &Rule, set: u64, words: bool) -> bool
     ensures { result ≡ all_known set words (right rule.now) }
 {
-    for k in 0..rule.len as usize {
-        if !is_known(rule.symbols[k], set, words) {
-            return false;
-        }
-    }
-    true
+    rule.symbols
+        .iter()
+        .take(rule.len as usize)
+        .all(|symbol| is_known(*symbol, set, words))
 }
 
 // The set and the left name of each rule whose right side is known.
-fn expand(rules: &[Rule], set: u32, words: bool) -> u32
+fn expand(rules: &[Rule], set: u64, words: bool) -> u64
     requires { AllFormed 32 64 rules.now }
     ensures grown { set ≤ result }
     ensures closed { Closed words rules.now set result }
@@ -48,7 +44,7 @@ fn expand(rules: &[Rule], set: u32, words: bool) -> u32
 }
 
 // The names that have a tree: of any words, or of none.
-fn close(rules: &[Rule], words: bool) -> u32
+fn close(rules: &[Rule], words: bool) -> u64
     requires { AllFormed 32 64 rules.now }
     ensures { Exactly words rules.now result }
 {
@@ -63,7 +59,7 @@ fn close(rules: &[Rule], words: bool) -> u32
 }
 
 // The names that can yield no words.
-pub(crate) fn nullable_names(rules: &[Rule]) -> u32
+pub(crate) fn nullable_names(rules: &[Rule]) -> u64
     requires { AllFormed 32 64 rules.now }
     ensures { Nullables rules.now result }
 {
@@ -72,11 +68,11 @@ pub(crate) fn nullable_names(rules: &[Rule]) -> u32
 
 // The lowest of the first names that has no tree.
 pub(crate) fn treeless_name(rules: &[Rule], names: u8) -> Option<u8>
-    requires all_formed { AllFormed 32 64 rules.now }
-    requires names_bound { names ≤ 32 }
+    requires { AllFormed 32 64 rules.now }
     ensures { Treeless rules.now names result }
 {
     let set = close(rules, true);
+    // Tried as a `find`: the proof does not follow a range's items by their numbers.
     for a in 0..names {
         if !holds(set, a) {
             return Some(a);

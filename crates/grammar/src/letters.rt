@@ -1,30 +1,23 @@
 // The characters of names and words.
 ghost use Rattle.std.specs.Prelude.{◌≡◌, ℕ, ◌+◌, ◌<◌, ◌≤◌};
-ghost use Rattle.grammar.specs.Letters.{digit, small, capital, in_name, in_word, belongs, every, name_spelled, word_spelled};
-
-#[derive(Clone, Copy)]
-pub enum Class {
-    Digit,
-    InName,
-    InWord,
-}
+ghost use Rattle.grammar.specs.Letters.{digit, small, capital, in_name, in_word, every, name_spelled, word_spelled};
 
 pub fn is_digit(c: u8) -> bool
     ensures { result ≡ digit c }
 {
-    b'0' <= c && c <= b'9'
+    c.is_ascii_digit()
 }
 
 pub fn is_small(c: u8) -> bool
     ensures { result ≡ small c }
 {
-    b'a' <= c && c <= b'z'
+    c.is_ascii_lowercase()
 }
 
 pub fn is_capital(c: u8) -> bool
     ensures { result ≡ capital c }
 {
-    b'A' <= c && c <= b'Z'
+    c.is_ascii_uppercase()
 }
 
 pub fn is_in_name(c: u8) -> bool
@@ -39,28 +32,22 @@ pub fn is_in_word(c: u8) -> bool
     is_in_name(c) || c == b'-'
 }
 
-impl Class {
-    pub fn has(self, c: u8) -> bool
-        ensures { result ≡ belongs self c }
-    {
-        match self {
-            Class::Digit => is_digit(c),
-            Class::InName => is_in_name(c),
-            Class::InWord => is_in_word(c),
-        }
-    }
+pub fn are_digits(bytes: &[u8]) -> bool
+    ensures { result ≡ every digit bytes.now }
+{
+    bytes.iter().all(|c| is_digit(*c))
+}
 
-    // Whether each character is of the class.
-    pub fn has_all(self, bytes: &[u8]) -> bool
-        ensures { result ≡ every (belongs self) bytes.now }
-    {
-        for c in bytes {
-            if !self.has(*c) {
-                return false;
-            }
-        }
-        true
-    }
+pub fn are_in_name(bytes: &[u8]) -> bool
+    ensures { result ≡ every in_name bytes.now }
+{
+    bytes.iter().all(|c| is_in_name(*c))
+}
+
+pub fn are_in_word(bytes: &[u8]) -> bool
+    ensures { result ≡ every in_word bytes.now }
+{
+    bytes.iter().all(|c| is_in_word(*c))
 }
 
 // Whether the bytes spell a name, at any length.
@@ -69,7 +56,7 @@ pub fn is_name(bytes: &[u8]) -> bool
 {
     match bytes {
         [] => false,
-        [first, rest @ ..] => is_capital(*first) && Class::InName.has_all(rest),
+        [first, rest @ ..] => is_capital(*first) && are_in_name(rest),
     }
 }
 
@@ -77,5 +64,5 @@ pub fn is_name(bytes: &[u8]) -> bool
 pub fn is_word(bytes: &[u8]) -> bool
     ensures { result ≡ word_spelled bytes.now }
 {
-    !bytes.is_empty() && Class::InWord.has_all(bytes)
+    !bytes.is_empty() && are_in_word(bytes)
 }

@@ -1,12 +1,16 @@
 // What a command sheet holds: rules over names and words, and the sheet type that keeps them in order.
 #![tactic(auto)]
 
-mod bits;
+ghost use Rattle.std.specs.Prelude.{◌≡◌, ◌≤◌, ⊤, take};
+
+use std::alloc::AllocError;
+
 mod closure;
 pub mod draft;
 pub mod letters;
 pub mod masks;
 pub mod sheet;
+pub mod shelf;
 
 // A name stands for other symbols, a word for itself; each by its number.
 #[derive(Clone, Copy)]
@@ -35,10 +39,22 @@ impl Rule {
 }
 
 // The bytes of a name or a word: the first `len`.
-#[derive(Clone, Copy)]
+#[derive(Copy)]
 pub struct Spelling {
     pub len: u8,
     pub bytes: [u8; 15],
+    ghost short: { len ≤ 15 },
+}
+
+// No derive reaches over a ghost field.
+impl Clone for Spelling {
+    ghost is_clone = { λ x y. y ≡ x };
+
+    ghost is_infallible = { λ _. ⊤ };
+
+    fn clone(&self) -> Result<Spelling, AllocError> {
+        Ok(*self)
+    }
 }
 
 impl Spelling {
@@ -46,6 +62,13 @@ impl Spelling {
         len: 0,
         bytes: [0; 15],
     };
+
+    // The bytes in use.
+    pub fn as_bytes(&self) -> &[u8]
+        ensures { result.now ≡ take self.now.len self.now.bytes }
+    {
+        &self.bytes[..self.len as usize]
+    }
 }
 
 // A word said stands for the word meant.

@@ -6,9 +6,9 @@ ghost use Rattle.grammar.specs.Dotted.{Place, dots, dotted, leading_name, leadin
 ghost use Rattle.grammar.specs.Masked.{Masked};
 ghost use Rattle.grammar.specs.inner.Marking.{Held, Joins, Marked, Grown, spot};
 
-use super::bits::holds;
 use super::{Rule, Symbol};
 use items::Items;
+use items::few::holds;
 
 #[derive(Clone, Copy)]
 pub struct Masks {
@@ -48,7 +48,7 @@ impl Masks {
     }
 
     // Marks a place with the dot before the symbol.
-    fn add_symbol(&mut self, symbol: Symbol, place: u8, nullable: u32)
+    fn add_symbol(&mut self, symbol: Symbol, place: u8, nullable: u64)
         requires { Counted 32 64 symbol }
         ensures names { Marked (leading_name (symbol ∷ [])) place self.old.before_name self.new.before_name }
         ensures words { Marked (leading_word (symbol ∷ [])) place self.old.before_word self.new.before_word }
@@ -68,7 +68,7 @@ impl Masks {
     }
 
     // Marks the place after k symbols of the rule.
-    fn add_place(&mut self, rule: &Rule, k: usize, place: u8, nullable: u32)
+    fn add_place(&mut self, rule: &Rule, k: usize, place: u8, nullable: u64)
         requires formed { Formed 32 64 rule.now }
         requires k_le_len { k ≤ rule.now.len }
         ensures whole { length (right rule.now) ≡ rule.now.len }
@@ -85,7 +85,7 @@ impl Masks {
     }
 
     // Marks the places of one rule more, numbered from `start` on.
-    fn add_rule(&mut self, rule: &Rule, start: usize, nullable: u32)
+    fn add_rule(&mut self, rule: &Rule, start: usize, nullable: u64)
         requires formed { Formed 32 64 rule.now }
         requires len_bound { start + rule.now.len < 256 }
         ensures whole { length (right rule.now) ≡ rule.now.len }
@@ -97,7 +97,7 @@ impl Masks {
     }
 
     // The masks of the rules, where these names can yield nothing.
-    pub(crate) fn of(rules: &[Rule], nullable: u32) -> Masks
+    pub(crate) fn of(rules: &[Rule], nullable: u64) -> Masks
         requires all_formed { AllFormed 32 64 rules.now }
         requires rules_bound { places rules.now ≤ 256 }
         ensures masked { Masked rules.now nullable result }

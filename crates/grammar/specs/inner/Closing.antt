@@ -1,5 +1,6 @@
 -- The closure over the rules while it is computed, with the words known or not. Assumes nothing.
 use Rattle.std.specs.Prelude.{◌≡◌, ℕ, ◌<◌, Bool, true, ◌&&◌, T, ◌⊎◌, ◌↔◌, List, [], ◌∷◌, length, get_or, Some, None, Option, slice_index_or}
+use Rattle.std.specs.List.{list_all}
 use Rattle.grammar.specs.declared.Symbol.{Symbol}
 use Rattle.grammar.specs.declared.Symbol.TheVariants.{Name, Word}
 use Rattle.grammar.specs.declared.Rule.{Rule}
@@ -14,8 +15,7 @@ known set words (Name a) = has set a
 known set words (Word v) = words
 
 abbrev pub all_known : ℕ → Bool → List Symbol → Bool
-all_known set words [] = true
-all_known set words (s ∷ rest) = known set words s && all_known set words rest
+all_known set words ss = list_all (known set words) ss
 
 -- the row holds words only where `words` says so
 abbrev pub Of : Bool → Row → Type 0

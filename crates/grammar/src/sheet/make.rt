@@ -6,8 +6,15 @@ ghost use Rattle.grammar.specs.View.{Blank};
 use super::super::closure::{nullable_names, treeless_name};
 use super::super::draft::Draft;
 use super::super::masks::Masks;
+use super::super::shelf::Shelf;
 use super::super::{Alias, Rule, Spelling};
 use super::Sheet;
+
+// The lowest name that has no tree.
+#[derive(Clone, Copy, PartialEq, Eq, Debug)]
+pub struct NoTree {
+    pub name: u8,
+}
 
 impl Sheet {
     // One rule, weight 0, name `A`, no symbols.
@@ -24,67 +31,43 @@ impl Sheet {
         let rules = [Rule::EMPTY; 128];
         let masks = Masks::of(&rules[0..1], 1);
         Sheet {
-            rules,
-            rule_count: 1,
-            names,
-            name_count: 1,
-            words: [Spelling::EMPTY; 64],
-            word_count: 0,
-            aliases: [Alias { said: 0, meant: 0 }; 16],
-            alias_count: 0,
-            starts,
-            fillers: 0,
+            draft: Draft {
+                rules: Shelf { items: rules, len: 1 },
+                names: Shelf { items: names, len: 1 },
+                words: Shelf::new(Spelling::EMPTY),
+                aliases: Shelf::new(Alias { said: 0, meant: 0 }),
+                starts,
+                fillers: 0,
+            },
             nullable: 1,
             masks,
         }
     }
 
     // The draft's sheet, or the lowest name without a tree.
-    pub(crate) fn of(draft: Draft) -> Result<Sheet, u8>
-        requires { 0 < draft.rule_count }
-        ensures { elim result [ Ok s ↦ Kept draft s | Err a ↦ Lowest draft a ] }
+    pub(crate) fn of(draft: Draft) -> Result<Sheet, NoTree>
+        requires { 0 < draft.rules.len }
+        ensures { elim result [ Ok s ↦ Kept draft s | Err e ↦ Lowest draft e.name ] }
     {
-        let Draft {
-            rules,
-            rule_count,
-            names,
-            name_count,
-            words,
-            word_count,
-            aliases,
-            alias_count,
-            starts,
-            fillers,
-        } = draft;
-        let listed = &rules[0..rule_count as usize];
-        if let Some(a) = treeless_name(listed, name_count) {
-            return Err(a);
+        let rules = draft.rules.as_slice();
+        if let Some(name) = treeless_name(rules, draft.names.len as u8) {
+            return Err(NoTree { name });
         }
-        let nullable = nullable_names(listed);
-        let masks = Masks::of(listed, nullable);
+        let nullable = nullable_names(rules);
+        let masks = Masks::of(rules, nullable);
         Ok(Sheet {
-            rules,
-            rule_count,
-            names,
-            name_count,
-            words,
-            word_count,
-            aliases,
-            alias_count,
-            starts,
-            fillers,
+            draft,
             nullable,
             masks,
         })
     }
 
     // The draft's sheet takes this one's place; a refusal leaves it.
-    pub fn replace(&mut self, draft: Draft) -> Result<(), u8>
-        requires { 0 < draft.rule_count }
-        ensures { elim result [ Ok u ↦ Kept draft self.new | Err a ↦ Lowest draft a × (self.new ≡ self.old) ] }
+    pub fn replace(&mut self, draft: Draft) -> Result<(), NoTree>
+        requires { 0 < draft.rules.len }
+        ensures { elim result [ Ok u ↦ Kept draft self.new | Err e ↦ Lowest draft e.name × (self.new ≡ self.old) ] }
     {
-        let sheet = Sheet::of(draft)?;
-        *self = sheet;
+        *self = Sheet::of(draft)?;
         Ok(())
     }
 }

@@ -5,32 +5,32 @@ ghost use Rattle.grammar.specs.Closure.{Empties, HasTree};
 ghost use Rattle.grammar.specs.Masked.{Masked};
 ghost use Rattle.grammar.specs.View.{rules_of, grammar_of, names_in, words_in, aliases_in};
 
-use super::super::bits::holds;
 use super::super::masks::Masks;
 use super::super::{Alias, Rule, Spelling};
 use super::Sheet;
+use items::few::holds;
 
 impl Sheet {
     // The rules, in their order.
     pub fn rules(&self) -> &[Rule]
         ensures { result.now ≡ rules_of self.now }
     {
-        &self.rules[0..self.rule_count as usize]
+        self.draft.rules.as_slice()
     }
 
     // The names, by their numbers.
     pub fn names(&self) -> &[Spelling]
-        ensures { result.now ≡ take self.now.name_count self.now.names }
+        ensures { result.now ≡ take self.now.draft.names.len self.now.draft.names.items }
     {
-        &self.names[0..self.name_count as usize]
+        self.draft.names.as_slice()
     }
 
     // How many names there are.
     pub fn name_count(&self) -> u8
-        ensures is { result ≡ self.now.name_count }
+        ensures is { result ≡ self.now.draft.names.len }
         ensures few { result ≤ 32 }
     {
-        self.name_count
+        self.draft.names.len as u8
     }
 
     // The name that commands start from.
@@ -38,29 +38,28 @@ impl Sheet {
         ensures is { result ≡ (grammar_of self.now).start }
         ensures low { result < 32 }
     {
-        self.rules[0].left
+        self.draft.rules.items[0].left
     }
 
     // The words, by their numbers.
     pub fn words(&self) -> &[Spelling]
-        ensures { result.now ≡ take self.now.word_count self.now.words }
+        ensures { result.now ≡ take self.now.draft.words.len self.now.draft.words.items }
     {
-        &self.words[0..self.word_count as usize]
+        self.draft.words.as_slice()
     }
 
     // How many words there are.
     pub fn word_count(&self) -> u8
         ensures { result ≡ length (words_in self.now) }
     {
-        let listed = &self.words[0..self.word_count as usize];
-        listed.len() as u8
+        self.draft.words.len as u8
     }
 
     // The aliases, in their order.
     pub fn aliases(&self) -> &[Alias]
         ensures { result.now ≡ aliases_in self.now }
     {
-        &self.aliases[0..self.alias_count as usize]
+        self.draft.aliases.as_slice()
     }
 
     // The aliases as a table, and how many of it are used.
@@ -68,22 +67,21 @@ impl Sheet {
         ensures used { take result.1 result.0 ≡ aliases_in self.now }
         ensures few { result.1 ≤ 16 }
     {
-        (self.aliases, self.alias_count)
+        (self.draft.aliases.items, self.draft.aliases.len as u8)
     }
 
     // The filler words, a bit for each.
     pub fn fillers(&self) -> u64
-        ensures { result ≡ self.now.fillers }
+        ensures { result ≡ self.now.draft.fillers }
     {
-        self.fillers
+        self.draft.fillers
     }
 
     // Whether the name can yield no words.
     pub fn is_nullable(&self, a: u8) -> bool
         ensures { (result ≡ true) ↔ Empties (rules_of self.now) a }
     {
-        let set = self.nullable;
-        a < 32 && holds(set, a)
+        holds(self.nullable, a)
     }
 
     // The sets of dotted places.
@@ -105,6 +103,6 @@ impl Sheet {
         ensures count { length result.now ≡ length (rules_of self.now) + 1 }
         ensures places { (k : ℕ) → k ≤ length (rules_of self.now) → slice_index result.now k ≡ places (take k (rules_of self.now)) }
     {
-        &self.starts[0..self.rule_count as usize + 1]
+        &self.draft.starts[0..self.draft.rules.len + 1]
     }
 }

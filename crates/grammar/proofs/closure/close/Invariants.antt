@@ -8,4 +8,4 @@ invariant-loop-set l = Sound l.words l.rules l.set
 
 -- a set that is not closed grows
 abbrev pub decreases-loop-set : goal.decreases-loop-set
-decreases-loop-set l = 2 ^ 32 - l.set
+decreases-loop-set l = 2 ^ 64 - l.set
