@@ -1,6 +1,8 @@
 -- Sets that grow by a step until it adds nothing.
-use Rattle.std.proofs.Common.{◌≡◌, ℕ, ◌+◌, ◌<◌, true, ◌||◌, List, length, sym, ◌∙◌, subst, ⊎_elim, arith}
-use Rattle.std.proofs.lemmas.Bool.{or_cases, or_left, or_right}
+use Rattle.std.proofs.Common.{◌≡◌, ℕ, ◌+◌, ◌<◌, ◌≤◌, true, List, length, sym, ◌∙◌, subst, ⊎_elim, arith}
+use Rattle.std.proofs.lemmas.Bool.{cases_lt, or_cases, or_left, or_right}
+use Rattle.std.specs.Prelude.{slice_index_or}
+use Rattle.grammar.specs.Dotted.{no_items}
 use Rattle.grammar.specs.declared.Symbol.TheVariants.{Name}
 use Rattle.grammar.specs.Grammar.{Grammar, rule, right}
 use Rattle.tables.specs.Table.{At}
@@ -8,12 +10,10 @@ use Rattle.tables.specs.Columns.{first_place, Has, Standing, Sure}
 use Rattle.tables.specs.inner.Sets.{Fitting, Named, Spot, Marked, Within, Skips, Skipped, Over, Asks, Chained, Opened, set_at}
 use Rattle.grammar.specs.declared.masks.Masks.{Masks}
 use Rattle.tables.specs.inner.Related.{Related}
-use Rattle.items.specs.Members.{member, Step}
+use Rattle.tables.specs.inner.Growth.{Union, Into, From, Stepped, Crosses, Opens, Grown, as_is, and_made, Saturated}
+use Rattle.items.specs.Members.{member, Common}
+use Rattle.items.specs.declared.Items.{Items}
 use Rattle.tables.proofs.Spots.{place_low, next_skip, next_name, next_open}
-
--- zs is the union of xs and ys
-abbrev pub Union : List ℕ → List ℕ → List ℕ → Type 0
-Union xs ys zs = (d : ℕ) → member zs d ≡ (member xs d || member ys d)
 
 pub left_in : (xs ys zs : List ℕ) → Union xs ys zs → Within xs zs
 left_in xs ys zs u d h m = u d ∙ or_left (member xs d) (member ys d) m
@@ -38,14 +38,14 @@ skips_union g f xs ys zs u a b r k n l at nu m =
     (λ (o : Has g ys r k). right_in xs ys zs u (first_place g.rules r + (k + 1)) high (b r k n l at nu o))
     (or_cases (member xs (first_place g.rules r + k)) (member ys (first_place g.rules r + k)) (sym (u (first_place g.rules r + k)) ∙ m))
 
+-- ---- growth
+
+-- what holds of a set and is kept by each step holds of what grew from it
+grown_holds : {Makes : Items → Items → Type 0} {xs zs : Items} (J : List ℕ → Type 0) → ((ys made us : Items) → J ys.words → Makes ys made → Union ys.words made.words us.words → J us.words) → J xs.words → Grown Makes xs zs → J zs.words
+grown_holds J keeps h as_is = h
+grown_holds J keeps h (and_made {ys} {made} {zs} g m u) = keeps ys made zs (grown_holds J keeps h g) m u
+
 -- ---- a step
-
--- what a step of xs over a mask has
-abbrev pub Into : List ℕ → List ℕ → List ℕ → Type 0
-Into xs mask ys = (d : ℕ) → d + 1 < 256 → member xs d ≡ true → member mask d ≡ true → member ys (d + 1) ≡ true
-
-abbrev pub From : List ℕ → List ℕ → List ℕ → Type 0
-From xs mask ys = (d : ℕ) → d < 256 → member ys d ≡ true → Step xs mask d
 
 pub has_next : (g : Grammar) → Fitting g → (xs mask ys : List ℕ) → Into xs mask ys → (r k : ℕ) → r < length g.rules → k < length (right (rule g r)) → Has g xs r k → Has g mask r k → Has g ys r (k + 1)
 has_next g f xs mask ys s r k l h a b =
@@ -69,10 +69,20 @@ sure_asked g ws i j xs ys a s d h e = next_open g ws i j d xs s (a.from d h e)
 
 -- ---- names that can yield nothing
 
-pub skip_done : (g : Grammar) (m : Masks) → Marked g m → (xs ys zs : List ℕ) → Union xs ys zs → zs ≡ xs → Into xs m.before_nullable.words ys → Skips g zs
-skip_done g m t xs ys zs u e s r k b l at n h =
-    right_in xs ys zs u (first_place g.rules r + (k + 1)) (place_low g t.fitting r (k + 1) l (omega (arith, at.0)))
-    (has_next g t.fitting xs m.before_nullable.words ys s r k l at.0 (subst (λ (v : List ℕ). Has g v r k) e h) (t.skip_in r k b l at n))
+skip_done : (g : Grammar) (m : Masks) → Marked g m → (zs more : List ℕ) → Union zs more zs → Into zs m.before_nullable.words more → Skips g zs
+skip_done g m t zs more u s r k b l at n h =
+    right_in zs more zs u (first_place g.rules r + (k + 1)) (place_low g t.fitting r (k + 1) l (omega (arith, at.0)))
+    (has_next g t.fitting zs m.before_nullable.words more s r k l at.0 h (t.skip_in r k b l at n))
+
+pub skip_all : (g : Grammar) (m : Masks) → Marked g m → {Makes : Items → Items → Type 0} {xs zs : Items} → ((ys made : Items) → Makes ys made → Stepped ys.words m.before_nullable.words made.words) → Saturated Makes xs zs → Skipped g xs.words zs.words
+skip_all g m t {Makes} {xs} {zs} f s = record {
+  keeps = grown_holds (λ v. Within xs.words v) (λ ys made us w p u. within_left xs.words ys.words made.words us.words u w) (λ d h e. e) s.grown;
+  closed = skip_done g m t zs.words s.made.words s.still (f zs s.made s.makes).into;
+  sound = λ ws i j a.
+      grown_holds (λ v. Sure g ws i j v)
+      (λ ys made us b p u. sure_union g ws i j ys.words made.words us.words u b (sure_skip g m t ws i j ys.words made.words (f ys made p).from b))
+      a s.grown;
+}
 
 -- ---- chains
 
@@ -85,13 +95,13 @@ pub chain_start : (g : Grammar) (base xs : List ℕ) → Skips g xs → Chaining
 chain_start g base xs s = record { keeps = λ d h m. m; closed = s; sound = λ ws i j a b. b }
 
 -- one turn: what is complete in xs, the step of the base over it, that skipped, and the union
-pub chain_more : (g : Grammar) (m : Masks) → Marked g m → (base vs xs over step more zs : List ℕ) → Chaining g base vs xs → Over g xs over → From base over step → Skipped g step more → Union xs more zs → Chaining g base vs zs
-chain_more g m t base vs xs over step more zs c o f s u = record {
+pub chain_more : (g : Grammar) → Fitting g → (base vs xs over step more zs : List ℕ) → Chaining g base vs xs → Over g xs over → From base over step → Skipped g step more → Union xs more zs → Chaining g base vs zs
+chain_more g room base vs xs over step more zs c o f s u = record {
   keeps = within_left vs xs more zs u c.keeps;
-  closed = skips_union g t.fitting xs more zs u c.closed s.closed;
+  closed = skips_union g room xs more zs u c.closed s.closed;
   sound = λ ws i j a b.
       sure_union g ws i j xs more zs u (c.sound ws i j a b)
-      (s.sound ws i j (sure_over g t.fitting ws i i j base xs over step o f a (c.sound ws i j a b)));
+      (s.sound ws i j (sure_over g room ws i i j base xs over step o f a (c.sound ws i j a b)));
 }
 
 own_spot : (g : Grammar) (r k q : ℕ) → r < length g.rules → At (rule g r) k (Name (rule g q).left) → Spot g (Name (rule g q).left) (first_place g.rules r + k)
@@ -101,21 +111,31 @@ pub over_has : (g : Grammar) → Fitting g → (xs over : List ℕ) → Over g x
 over_has g f xs over o r k q l lq at h =
     o.into (first_place g.rules r + k) (place_low g f r k l (omega (arith, at.0))) (record { by = q; listed = lq; spot = own_spot g r k q l at; complete = h })
 
-pub chain_done : (g : Grammar) (m : Masks) → Marked g m → (base vs xs over step more zs : List ℕ) → Chaining g base vs zs → Over g xs over → Into base over step → Skipped g step more → Union xs more zs → zs ≡ xs → Chained g base vs zs
-chain_done g m t base vs xs over step more zs c o f s u e = record {
+chain_done : (g : Grammar) → Fitting g → (base vs over step more zs : List ℕ) → Chaining g base vs zs → Over g zs over → Into base over step → Skipped g step more → Union zs more zs → Chained g base vs zs
+chain_done g room base vs over step more zs c o f s u = record {
   keeps = c.keeps;
   closed = c.closed;
   chains = λ r k q l lq at a b.
-      let high = place_low g t.fitting r (k + 1) l (omega (arith, at.0)) in
-      right_in xs more zs u (first_place g.rules r + (k + 1)) high
+      let high = place_low g room r (k + 1) l (omega (arith, at.0)) in
+      right_in zs more zs u (first_place g.rules r + (k + 1)) high
       (s.keeps (first_place g.rules r + (k + 1)) high
-      (has_next g t.fitting base over step f r k l at.0 a (over_has g t.fitting xs over o r k q l lq at (subst (λ (v : List ℕ). Has g v q (length (right (rule g q)))) e b))));
+      (has_next g room base over step f r k l at.0 a (over_has g room zs over o r k q l lq at b)));
   sound = c.sound;
 }
 
 -- and what was skipped before
-pub chain_after : (g : Grammar) (base us vs zs : List ℕ) → Skipped g us vs → Chained g base vs zs → Chained g base us zs
+chain_after : (g : Grammar) (base us vs zs : List ℕ) → Skipped g us vs → Chained g base vs zs → Chained g base us zs
 chain_after g base us vs zs s c = record { keeps = λ d h m. c.keeps d h (s.keeps d h m); closed = c.closed; chains = c.chains; sound = λ ws i j a b. c.sound ws i j a (s.sound ws i j b) }
+
+pub chain_all : (g : Grammar) → Fitting g → (base us : List ℕ) {Makes : Items → Items → Type 0} {vs zs : Items} → Skipped g us vs.words → ((ys made : Items) → Makes ys made → Crosses g base ys.words made.words) → Saturated Makes vs zs → Chained g base us zs.words
+chain_all g room base us {Makes} {vs} {zs} first f s =
+    let last = f zs s.made s.makes in
+    chain_after g base us vs.words zs.words first
+    (chain_done g room base vs.words last.over last.next s.made.words zs.words
+    (grown_holds (λ v. Chaining g base vs.words v)
+    (λ ys made ts c p u. let n = f ys made p in chain_more g room base vs.words ys.words n.over n.next made.words ts.words c n.crossed n.stepped.from n.skipped u)
+    (chain_start g base vs.words first.closed) s.grown)
+    last.crossed last.stepped.into last.skipped s.still)
 
 -- ---- openings
 
@@ -127,10 +147,10 @@ pub record Opening (g : Grammar) (xs ys : List ℕ) : Type 0 where
 pub open_start : (g : Grammar) (xs : List ℕ) → Skips g xs → Opening g xs xs
 open_start g xs s = record { keeps = λ d h m. m; closed = s; sound = λ ws j b. b }
 
-pub open_more : (g : Grammar) (m : Masks) → Marked g m → (vs xs asked more zs : List ℕ) → Opening g vs xs → Asks g xs asked → Skipped g asked more → Union xs more zs → Opening g vs zs
-open_more g m t vs xs asked more zs c a s u = record {
+pub open_more : (g : Grammar) → Fitting g → (vs xs asked more zs : List ℕ) → Opening g vs xs → Asks g xs asked → Skipped g asked more → Union xs more zs → Opening g vs zs
+open_more g room vs xs asked more zs c a s u = record {
   keeps = within_left vs xs more zs u c.keeps;
-  closed = skips_union g t.fitting xs more zs u c.closed s.closed;
+  closed = skips_union g room xs more zs u c.closed s.closed;
   sound = λ ws j b. sure_union g ws j j xs more zs u (c.sound ws j b) (s.sound ws j j (sure_asked g ws j j xs asked a (c.sound ws j b)));
 }
 
@@ -139,21 +159,48 @@ asked_has g f xs asked a r k q l lq at h =
     a.into (first_place g.rules q + 0) (place_low g f q 0 lq (omega arith))
     (record { by = q; listed = lq; is = omega arith; place = first_place g.rules r + k; low = place_low g f r k l (omega (arith, at.0)); spot = own_spot g r k q l at; has = h })
 
-pub open_done : (g : Grammar) (m : Masks) → Marked g m → (vs xs asked more zs : List ℕ) → Opening g vs zs → Asks g xs asked → Skipped g asked more → Union xs more zs → zs ≡ xs → Opened g vs zs
-open_done g m t vs xs asked more zs c a s u e = record {
+open_done : (g : Grammar) → Fitting g → (vs asked more zs : List ℕ) → Opening g vs zs → Asks g zs asked → Skipped g asked more → Union zs more zs → Opened g vs zs
+open_done g room vs asked more zs c a s u = record {
   keeps = c.keeps;
   closed = c.closed;
   opens = λ r k q l lq at h.
-      let low = place_low g t.fitting q 0 lq (omega arith) in
-      right_in xs more zs u (first_place g.rules q + 0) low
-      (s.keeps (first_place g.rules q + 0) low (asked_has g t.fitting xs asked a r k q l lq at (subst (λ (v : List ℕ). Has g v r k) e h)));
+      let low = place_low g room q 0 lq (omega arith) in
+      right_in zs more zs u (first_place g.rules q + 0) low
+      (s.keeps (first_place g.rules q + 0) low (asked_has g room zs asked a r k q l lq at h));
   sound = c.sound;
 }
 
-pub open_after : (g : Grammar) (us vs zs : List ℕ) → Skipped g us vs → Opened g vs zs → Opened g us zs
+open_after : (g : Grammar) (us vs zs : List ℕ) → Skipped g us vs → Opened g vs zs → Opened g us zs
 open_after g us vs zs s c = record { keeps = λ d h m. c.keeps d h (s.keeps d h m); closed = c.closed; opens = c.opens; sound = λ ws j b. c.sound ws j (s.sound ws j j b) }
 
+pub open_all : (g : Grammar) → Fitting g → (us : List ℕ) {Makes : Items → Items → Type 0} {vs zs : Items} → Skipped g us vs.words → ((ys made : Items) → Makes ys made → Opens g ys.words made.words) → Saturated Makes vs zs → Opened g us zs.words
+open_all g room us {Makes} {vs} {zs} first f s =
+    let last = f zs s.made s.makes in
+    open_after g us vs.words zs.words first
+    (open_done g room vs.words last.asked s.made.words zs.words
+    (grown_holds (λ v. Opening g vs.words v)
+    (λ ys made ts c p u. let n = f ys made p in open_more g room vs.words ys.words n.asked made.words ts.words c n.asks n.skipped u)
+    (open_start g vs.words first.closed) s.grown)
+    last.asks last.skipped s.still)
+
 -- ---- sets chosen by what they meet
+
+-- one pair more, of a key and a value, which more has if the set meets the key
+pub related_more : (keys values : List Items) (xs ys more zs : List ℕ) (n : ℕ) (key value : Items) → key ≡ slice_index_or keys n no_items → value ≡ slice_index_or values n no_items → Related keys values xs ys n → (Common xs key.words → Within value.words more) → ((d : ℕ) → d < 256 → member more d ≡ true → Common xs key.words × (member value.words d ≡ true)) → Union ys more zs → Related keys values xs zs (n + 1)
+related_more keys values xs ys more zs n key value k v r into from u = record {
+  into = λ d h c. ⊎_elim
+      (λ (o : c.at < n). left_in ys more zs u d h (r.into d h (record { at = c.at; low = o; common = c.common; has = c.has })))
+      (λ (o : n ≤ c.at).
+      let same : c.at ≡ n = omega (arith, c.low) in
+      right_in ys more zs u d h
+      (into (subst (λ (s : Items). Common xs s.words) (sym k) (subst (λ (a : ℕ). Common xs (set_at keys a)) same c.common)) d h
+      (subst (λ (s : Items). member s.words d ≡ true) (sym v) (subst (λ (a : ℕ). member (set_at values a) d ≡ true) same c.has))))
+      (cases_lt c.at n);
+  from = λ d h e. ⊎_elim
+      (λ (o : member ys d ≡ true). let c = r.from d h o in record { at = c.at; low = omega (arith, c.low); common = c.common; has = c.has })
+      (λ (o : member more d ≡ true). let c = from d h o in record { at = n; low = omega arith; common = subst (λ (s : Items). Common xs s.words) k c.0; has = subst (λ (s : Items). member s.words d ≡ true) v c.1 })
+      (or_cases (member ys d) (member more d) (sym (u d) ∙ e));
+}
 
 pub related_over : (g : Grammar) (m : Masks) → Marked g m → (xs ys : List ℕ) → (names : ℕ) → Named g names → Related m.last m.before_name xs ys names → Over g xs ys
 related_over g m t xs ys names n r = record {

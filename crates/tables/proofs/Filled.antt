@@ -9,7 +9,7 @@ use Rattle.tables.specs.Table.{Stands, At}
 use Rattle.tables.specs.Steps.{Exact, Sound, Due, by_word, by_name, by_nothing, at_start, by_rule, Full, Seeded}
 use Rattle.tables.specs.Columns.{first_place, cell, Has, Sure, cell_of, Held, Column, Next, Beside}
 use Rattle.grammar.specs.declared.masks.Masks.{Masks}
-use Rattle.tables.specs.inner.Sets.{Marked, Over, Asks, Opened, set_at}
+use Rattle.tables.specs.inner.Sets.{Fitting, Marked, Over, Asks, Opened, set_at}
 use Rattle.grammar.specs.Dotted.{no_items}
 use Rattle.tables.specs.inner.Cells.{Stored, Filling, Ready, Made, Wanting}
 use Rattle.tables.proofs.Closing.{stands_start, stands_agrees}
@@ -17,7 +17,8 @@ use Rattle.tables.proofs.Dues.{full_agrees, column_exact}
 use Rattle.items.specs.Members.{member}
 use Rattle.items.specs.declared.Items.{Items}
 use Rattle.tables.proofs.Spots.{place_low, has_stands}
-use Rattle.tables.proofs.Closures.{Union, left_in, right_in, sure_union, sure_asked, asked_has}
+use Rattle.tables.specs.inner.Growth.{Union}
+use Rattle.tables.proofs.Closures.{left_in, right_in, sure_union, sure_asked, asked_has}
 use Rattle.tables.proofs.Storing.{cell_kept}
 
 -- ---- one cell
@@ -82,8 +83,8 @@ set_same overs i it l = ap {B = List ℕ} (λ (v : Items). v.words) (get_or-set_
 set_other : (overs : List Items) (i a : ℕ) (it : Items) → (a ≡ i → ⊥) → set_at (set overs i it) a ≡ set_at overs a
 set_other overs i a it n = ap {B = List ℕ} (λ (v : Items). v.words) (get_or-set_other overs i a it no_items n)
 
-pub filling_row : (g : Grammar) (ws : List ℕ) (m : Masks) (old new : List ℕ) (overs : List Items) (i j w : ℕ) (xs : List ℕ) (ov : Items) → i < j → i < length overs → Ready g ws m old overs i j w → Made g ws old i j xs → Stored old new i j xs → Over g xs ov.words → Filling g ws new (set overs i ov) j i
-filling_row g ws m old new overs i j w xs ov o lo h c s v = record {
+pub filling_row : (g : Grammar) (ws old new : List ℕ) (overs : List Items) (i j w : ℕ) (xs : List ℕ) (ov : Items) → i < j → i < length overs → Ready g ws old overs i j w → Made g ws old i j xs → Stored old new i j xs → Over g xs ov.words → Filling g ws new (set overs i ov) j i
+filling_row g ws old new overs i j w xs ov o lo h c s v = record {
   columns = λ n l. column_kept g ws old new i j xs s (omega arith) n l (h.filling.columns n l);
   only = λ a p l. ⊎_elim
       (λ (y : i < a). subst (λ (z : List ℕ). Sure g ws a j z) (sym (cell_kept old new i j xs s a j (omega arith) (omega arith) (λ z. omega (arith, z.0)))) (h.filling.only a (omega arith) l))
@@ -105,21 +106,21 @@ filling_row g ws m old new overs i j w xs ov o lo h c s v = record {
     eq : (a : ℕ) → i ≤ a → a ≤ i → i ≡ a
     eq a p y = omega arith
 
-pub wanting_row : (g : Grammar) (ws : List ℕ) (m : Masks) → Marked g m → (old new : List ℕ) (i j : ℕ) (xs wants asked more : List ℕ) → i < j → Wanting g ws old j (i + 1) wants → Sure g ws i j xs → Stored old new i j xs → Asks g xs asked → Union wants asked more → Wanting g ws new j i more
-wanting_row g ws m t old new i j xs wants asked more o c s d a u = record {
+pub wanting_row : (g : Grammar) → Fitting g → (ws old new : List ℕ) (i j : ℕ) (xs wants asked more : List ℕ) → i < j → Wanting g ws old j (i + 1) wants → Sure g ws i j xs → Stored old new i j xs → Asks g xs asked → Union wants asked more → Wanting g ws new j i more
+wanting_row g t ws old new i j xs wants asked more o c s d a u = record {
   starts = λ q e l b. left_in wants asked more u (first_place g.rules q + 0) (low q l) (c.starts q e l b);
   asks = λ b r k q p l lr lq at h. ⊎_elim
       (λ (y : i < b). left_in wants asked more u (first_place g.rules q + 0) (low q lq) (c.asks b r k q (omega arith) l lr lq at (back g old new i j xs d (omega arith) b j (omega arith) (λ z. omega (arith, z.0)) r k h)))
       (λ (y : b ≤ i).
       let same : b ≡ i = omega arith in
       right_in wants asked more u (first_place g.rules q + 0) (low q lq)
-      (asked_has g t.fitting xs asked a r k q lr lq at (subst (λ (v : List ℕ). Has g v r k) d.here (subst (λ (z : ℕ). Held g new z j r k) same h))))
+      (asked_has g t xs asked a r k q lr lq at (subst (λ (v : List ℕ). Has g v r k) d.here (subst (λ (z : ℕ). Held g new z j r k) same h))))
       (cases_lt i b);
   only = sure_union g ws j j wants asked more u c.only (sure_asked g ws i j xs asked a s);
 }
   where
     low : (q : ℕ) → q < length g.rules → first_place g.rules q + 0 < 256
-    low q l = place_low g t.fitting q 0 l (omega arith)
+    low q l = place_low g t q 0 l (omega arith)
 
 -- ---- before the first cell
 
@@ -137,18 +138,18 @@ wanting_start g ws m t table start j e z = record {
 
 -- ---- after the last cell
 
-column_sound : (g : Grammar) (m : Masks) → Marked g m → (ws table : List ℕ) (j : ℕ) → ((i : ℕ) → i ≤ j → Sure g ws i j (cell_of table i j)) → Sound g ws (Held g table) j
-column_sound g m t ws table j s i r k o l d h = has_stands g t.fitting ws i j (cell_of table i j) (s i o) r k l d h
+column_sound : (g : Grammar) → Fitting g → (ws table : List ℕ) (j : ℕ) → ((i : ℕ) → i ≤ j → Sure g ws i j (cell_of table i j)) → Sound g ws (Held g table) j
+column_sound g t ws table j s i r k o l d h = has_stands g t ws i j (cell_of table i j) (s i o) r k l d h
 
-column_is_exact : (g : Grammar) (m : Masks) → Marked g m → (ws table : List ℕ) (j : ℕ) → Column g ws table j → Exact g ws (Held g table) j
-column_is_exact g m t ws table j c i r k o l d = (column_sound g m t ws table j c.only i r k o l d, λ s. c.holds i r k s)
+column_is_exact : (g : Grammar) → Fitting g → (ws table : List ℕ) (j : ℕ) → Column g ws table j → Exact g ws (Held g table) j
+column_is_exact g t ws table j c i r k o l d = (column_sound g t ws table j c.only i r k o l d, λ s. c.holds i r k s)
 
-column_last : (g : Grammar) (ws : List ℕ) (m : Masks) → Marked g m → (old new : List ℕ) (overs : List Items) (j : ℕ) (wants ys : List ℕ) → j ≤ length ws → Filling g ws old overs j 0 → Wanting g ws old j 0 wants → Opened g wants ys → Stored old new j j ys → Column g ws new j
-column_last g ws m t old new overs j wants ys h f c o s = record {
+column_last : (g : Grammar) → Fitting g → (ws old new : List ℕ) (overs : List Items) (j : ℕ) (wants ys : List ℕ) → j ≤ length ws → Filling g ws old overs j 0 → Wanting g ws old j 0 wants → Opened g wants ys → Stored old new j j ys → Column g ws new j
+column_last g t ws old new overs j wants ys h f c o s = record {
   only = only;
   holds = λ i r k st. (column_exact g ws (Held g new) j (λ a b q n. Bool-set (member (cell_of new a b) (first_place g.rules q + n)) true) h
-      (λ n l. column_is_exact g m t ws new n (column_kept g ws old new j j ys s (omega arith) n l (f.columns n l)))
-      (column_sound g m t ws new j only) full seeded i r k st.ordered st.listed st.dot).1 st;
+      (λ n l. column_is_exact g t ws new n (column_kept g ws old new j j ys s (omega arith) n l (f.columns n l)))
+      (column_sound g t ws new j only) full seeded i r k st.ordered st.listed st.dot).1 st;
 }
   where
     own : (r k : ℕ) → Has g ys r k → Held g new j j r k
@@ -175,7 +176,7 @@ column_last g ws m t old new overs j wants ys h f c o s = record {
         (cases_lt i j)
 
     low : (q : ℕ) → q < length g.rules → first_place g.rules q + 0 < 256
-    low q l = place_low g t.fitting q 0 l (omega arith)
+    low q l = place_low g t q 0 l (omega arith)
 
     seeded : Seeded g (Held g new) j
     seeded q l (at_start e b) = own q 0 (o.keeps (first_place g.rules q + 0) (low q l) (c.starts q e l b))
@@ -184,11 +185,11 @@ column_last g ws m t old new overs j wants ys h f c o s = record {
         (λ (y : j ≤ i). o.opens r k q lr l (name_of g r k b q e at) (here i r k y a d))
         (cases_lt i j))
 
-pub column_done : (g : Grammar) (ws : List ℕ) (m : Masks) → Marked g m → (old new : List ℕ) (overs : List Items) (j : ℕ) (wants ys : List ℕ) → j ≤ length ws → Filling g ws old overs j 0 → Wanting g ws old j 0 wants → Opened g wants ys → Stored old new j j ys → (n : ℕ) → n ≤ j → Column g ws new n
-column_done g ws m t old new overs j wants ys h f c o s n l =
+pub column_done : (g : Grammar) → Fitting g → (ws old new : List ℕ) (overs : List Items) (j : ℕ) (wants ys : List ℕ) → j ≤ length ws → Filling g ws old overs j 0 → Wanting g ws old j 0 wants → Opened g wants ys → Stored old new j j ys → (n : ℕ) → n ≤ j → Column g ws new n
+column_done g t ws old new overs j wants ys h f c o s n l =
     ⊎_elim
     (λ (y : n < j). column_kept g ws old new j j ys s (omega arith) n y (f.columns n y))
-    (λ (y : j ≤ n). let e : j ≡ n = omega arith in subst (λ (z : ℕ). Column g ws new z) e (column_last g ws m t old new overs j wants ys h f c o s))
+    (λ (y : j ≤ n). let e : j ≡ n = omega arith in subst (λ (z : ℕ). Column g ws new z) e (column_last g t ws old new overs j wants ys h f c o s))
     (cases_lt n j)
 
 -- ---- what stays
@@ -205,8 +206,8 @@ beside_same old j = record { others = λ p h. refl; size = refl }
 pub beside_then : (old mid new : List ℕ) (j : ℕ) → Beside old mid j → Beside mid new j → Beside old new j
 beside_then old mid new j a b = record { others = λ p h. b.others p h ∙ a.others p h; size = b.size ∙ a.size }
 
-pub ready_from : (g : Grammar) (ws : List ℕ) (m : Masks) (first table : List ℕ) (overs : List Items) (i j w n : ℕ) → n ≡ i + 1 → Marked g m → Next g ws first j w → Filling g ws table overs j n → Ready g ws m table overs i j w
-ready_from g ws m first table overs i j w n e t x f = record { marked = t; within = x.within; word = x.word; filling = subst (λ (z : ℕ). Filling g ws table overs j z) e f }
+pub ready_from : (g : Grammar) (ws first table : List ℕ) (overs : List Items) (i j w n : ℕ) → n ≡ i + 1 → Next g ws first j w → Filling g ws table overs j n → Ready g ws table overs i j w
+ready_from g ws first table overs i j w n e x f = record { within = x.within; word = x.word; filling = subst (λ (z : ℕ). Filling g ws table overs j z) e f }
 
 -- ---- other words after a column
 

@@ -1,5 +1,5 @@
 -- What a sheet's invariants say of its grammar.
-use Rattle.std.proofs.Common.{ℕ, ◌<◌, length, subst, arith, length-take}
+use Rattle.std.proofs.Common.{ℕ, ◌<◌, ◌≡◌, length, sym, subst, arith, length-take}
 use Rattle.grammar.specs.declared.Symbol.{Symbol}
 use Rattle.grammar.specs.declared.Symbol.TheVariants.{Name, Word}
 use Rattle.grammar.specs.declared.masks.Masks.{Masks}
@@ -10,12 +10,16 @@ use Rattle.grammar.specs.View.{rules_of, grammar_of}
 use Rattle.grammar.proofs.Fronts.{formed_front}
 use Rattle.tables.specs.Table.{At}
 use Rattle.tables.specs.Steps.{Productive}
-use Rattle.tables.specs.inner.Sets.{Named, Marked}
+use Rattle.tables.specs.inner.Sets.{Fitting, Named, Marked}
 use Rattle.tables.proofs.Rows.{at_read, at_same}
+use Rattle.tables.proofs.Dotting.{length_dotted}
 use Rattle.tables.proofs.Marking.{marked}
 
 pub sheet_marked : (s : Sheet) (m : Masks) → Masked (rules_of s) s.nullable m → Marked (grammar_of s) m
 sheet_marked s m h = marked (grammar_of s) s.nullable m s.fitting s.nulls h
+
+pub sheet_fitting : (s : Sheet) → Fitting (grammar_of s)
+sheet_fitting s = omega (arith, s.fitting, length_dotted (rules_of s))
 
 module _ (s : Sheet) (r : ℕ) (listed : r < length (rules_of s)) where
   -- the symbols of a rule are listed names and words
@@ -29,8 +33,11 @@ module _ (s : Sheet) (r : ℕ) (listed : r < length (rules_of s)) where
   pub word_listed : (k w : ℕ) → At (rule (grammar_of s) r) k (Word w) → w < s.word_count
   word_listed k w at = counted k (Word w) at
 
-pub sheet_named : (s : Sheet) → Named (grammar_of s) s.name_count
+sheet_named : (s : Sheet) → Named (grammar_of s) s.name_count
 sheet_named s r l = (formed_front s.name_count s.word_count s.rule_count s.rules s.lefts s.short s.rights r l).0
+
+pub sheet_names : (s : Sheet) (n : ℕ) → n ≡ s.name_count → Named (grammar_of s) n
+sheet_names s n e = subst (λ (n : ℕ). Named (grammar_of s) n) (sym e) (sheet_named s)
 
 pub sheet_productive : (s : Sheet) → Productive (grammar_of s)
 sheet_productive s r k b l at = s.treed b (counted s r l k (Name b) at)

@@ -1,3 +1,4 @@
 pub mod Sets
 pub mod Related
 pub mod Cells
+pub mod Growth

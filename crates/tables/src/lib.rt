@@ -15,7 +15,7 @@ mod sets;
 pub mod theorems;
 
 use cells::load;
-use column::column;
+use column::NextColumn;
 use grammar::sheet::Sheet;
 use items::Items;
 use offers::{expected, joint};
@@ -23,21 +23,18 @@ use offers::{expected, joint};
 // What these calls require is kept by the crates above, which hold the table.
 
 // Fills column j, where w is word j.
-pub fn fill_column(sheet: &Sheet, table: &mut [u64], j: usize, w: u8)
-    requires whole { length table.old ≡ 924 }
+pub fn fill_column(sheet: &Sheet, table: &mut [u64; 924], j: usize, w: u8)
     requires low { j ≤ 20 }
     requires listed { w < 64 }
     ensures exact { (ws : List ℕ) → Next (grammar_of sheet.now) ws table.old j w → (m : ℕ) → m ≤ j → Column (grammar_of sheet.now) ws table.new m }
     ensures others { Beside table.old table.new j }
 {
-    let names = sheet.name_count() as usize;
-    column(sheet.masks(), names, table, sheet.start(), j, w);
+    NextColumn { sheet, j, w }.fill(table);
 }
 
 // The words that can come next, where column n is the last: a bit for each.
-pub fn offer(sheet: &Sheet, table: &[u64], n: usize) -> u64
-    requires whole { length table.now ≡ 924 }
-    requires low { n ≤ 20 }
+pub fn offer(sheet: &Sheet, table: &[u64; 924], n: usize) -> u64
+    requires { n ≤ 20 }
     ensures exact { (ws : List ℕ) (w : ℕ) → n ≡ length ws → Column (grammar_of sheet.now) ws table.now n → (bit result w ≡ true) ↔ Offered (grammar_of sheet.now) ws w }
     ensures listed { (w : ℕ) → bit result w ≡ true → w < sheet.now.word_count }
 {
@@ -45,18 +42,16 @@ pub fn offer(sheet: &Sheet, table: &[u64], n: usize) -> u64
 }
 
 // The dotted places of cell (i, j).
-pub fn cell_items(table: &[u64], i: usize, j: usize) -> Items
-    requires whole { length table.now ≡ 924 }
-    requires low { (i ≤ j) × (j ≤ 20) }
+pub fn cell_items(table: &[u64; 924], i: usize, j: usize) -> Items
+    requires { (i ≤ j) × (j ≤ 20) }
     ensures { result.words ≡ cell_of table.now i j }
 {
     load(table, i, j)
 }
 
 // Whether the words are a command, where column n is the last.
-pub fn is_command(sheet: &Sheet, table: &[u64], n: usize) -> bool
-    requires whole { length table.now ≡ 924 }
-    requires low { n ≤ 20 }
+pub fn is_command(sheet: &Sheet, table: &[u64; 924], n: usize) -> bool
+    requires { n ≤ 20 }
     ensures { (ws : List ℕ) → n ≡ length ws → Column (grammar_of sheet.now) ws table.now n → (result ≡ true) ↔ Command (grammar_of sheet.now) ws }
 {
     let start = sheet.start() as usize;

@@ -3,18 +3,16 @@ use Rattle.std.specs.Prelude.{◌≡◌, ℕ, ◌+◌, ◌*◌, ◌<◌, ◌≤�
 use Rattle.items.specs.Members.{member, bit, Common}
 use Rattle.items.specs.declared.Items.{Items}
 use Rattle.grammar.specs.declared.Symbol.TheVariants.{Name, Word}
-use Rattle.grammar.specs.declared.masks.Masks.{Masks}
 use Rattle.grammar.specs.Grammar.{Grammar, rule, right}
 use Rattle.tables.specs.Table.{At}
 use Rattle.tables.specs.Steps.{Full}
 use Rattle.tables.specs.Columns.{cell, cell_of, Has, Held, Sure, Column}
-use Rattle.tables.specs.inner.Sets.{set_at, Marked, Skips, Over}
+use Rattle.tables.specs.inner.Sets.{set_at, Skips, Over}
 
 -- cell (i, j) is in the table
-pub record InTable (table : List ℕ) (i j : ℕ) : Type 0 where
+pub record InTable (i j : ℕ) : Type 0 where
   pub ordered : i ≤ j
   pub low : j ≤ 20
-  pub whole : length table ≡ 924
 
 -- cell (i, j) now has the words, and every number outside it is as it was
 pub record Stored (old new : List ℕ) (i j : ℕ) (xs : List ℕ) : Type 0 where
@@ -30,8 +28,7 @@ pub record Filling (g : Grammar) (ws : List ℕ) (table : List ℕ) (overs : Lis
   pub over : (a : ℕ) → lo ≤ a → a < j → Over g (cell_of table a j) (set_at overs a)
 
 -- what the code is handed for cell (i, j), where w is word j
-pub record Ready (g : Grammar) (ws : List ℕ) (m : Masks) (table : List ℕ) (overs : List Items) (i j w : ℕ) : Type 0 where
-  pub marked : Marked g m
+pub record Ready (g : Grammar) (ws : List ℕ) (table : List ℕ) (overs : List Items) (i j w : ℕ) : Type 0 where
   pub within : j ≤ length ws
   pub word : (n : ℕ) → j ≡ n + 1 → slice_index ws n ≡ w
   pub filling : Filling g ws table overs j (i + 1)
