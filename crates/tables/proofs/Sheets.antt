@@ -7,7 +7,6 @@ use Rattle.grammar.specs.declared.sheet.Sheet.{Sheet}
 use Rattle.grammar.specs.Grammar.{Counted, rule}
 use Rattle.grammar.specs.Masked.{Masked}
 use Rattle.grammar.specs.View.{rules_of, grammar_of}
-use Rattle.grammar.proofs.Fronts.{formed_front}
 use Rattle.tables.specs.Table.{At}
 use Rattle.tables.specs.Steps.{Productive}
 use Rattle.tables.specs.inner.Sets.{Fitting, Named, Marked}
@@ -23,20 +22,20 @@ sheet_fitting s = omega (arith, s.fitting, length_dotted (rules_of s))
 
 module _ (s : Sheet) (r : ℕ) (listed : r < length (rules_of s)) where
   -- the symbols of a rule are listed names and words
-  counted : (k : ℕ) (x : Symbol) → At (rule (grammar_of s) r) k x → Counted s.name_count s.word_count x
+  counted : (k : ℕ) (x : Symbol) → At (rule (grammar_of s) r) k x → Counted s.draft.names.len s.draft.words.len x
   counted k x at =
       let p = rule (grammar_of s) r in
-      let f = formed_front s.name_count s.word_count s.rule_count s.rules s.lefts s.short s.rights r listed in
-      subst (Counted s.name_count s.word_count) (at_same p k _ x (at_read p k (Name 0) at.0) at)
+      let f = s.draft.formed r listed in
+      subst (Counted s.draft.names.len s.draft.words.len) (at_same p k _ x (at_read p k (Name 0) at.0) at)
       (f.2 k (omega (arith, at.0, length-take p.len p.symbols)))
 
-  pub word_listed : (k w : ℕ) → At (rule (grammar_of s) r) k (Word w) → w < s.word_count
+  pub word_listed : (k w : ℕ) → At (rule (grammar_of s) r) k (Word w) → w < s.draft.words.len
   word_listed k w at = counted k (Word w) at
 
-sheet_named : (s : Sheet) → Named (grammar_of s) s.name_count
-sheet_named s r l = (formed_front s.name_count s.word_count s.rule_count s.rules s.lefts s.short s.rights r l).0
+sheet_named : (s : Sheet) → Named (grammar_of s) s.draft.names.len
+sheet_named s r l = (s.draft.formed r l).0
 
-pub sheet_names : (s : Sheet) (n : ℕ) → n ≡ s.name_count → Named (grammar_of s) n
+pub sheet_names : (s : Sheet) (n : ℕ) → n ≡ s.draft.names.len → Named (grammar_of s) n
 sheet_names s n e = subst (λ (n : ℕ). Named (grammar_of s) n) (sym e) (sheet_named s)
 
 pub sheet_productive : (s : Sheet) → Productive (grammar_of s)

@@ -4,7 +4,7 @@
 ghost use Rattle.std.specs.Prelude.{◌≡◌, ℕ, ◌<◌, ◌≤◌, true, ◌↔◌, List, length};
 ghost use Rattle.items.specs.Members.{bit};
 ghost use Rattle.grammar.specs.Trees.{Command};
-ghost use Rattle.grammar.specs.View.{grammar_of};
+ghost use Rattle.grammar.specs.View.{grammar_of, words_in};
 ghost use Rattle.tables.specs.Table.{Offered};
 ghost use Rattle.tables.specs.Columns.{Column, Next, Beside, cell_of};
 
@@ -36,7 +36,7 @@ pub fn fill_column(sheet: &Sheet, table: &mut [u64; 924], j: usize, w: u8)
 pub fn offer(sheet: &Sheet, table: &[u64; 924], n: usize) -> u64
     requires { n ≤ 20 }
     ensures exact { (ws : List ℕ) (w : ℕ) → n ≡ length ws → Column (grammar_of sheet.now) ws table.now n → (bit result w ≡ true) ↔ Offered (grammar_of sheet.now) ws w }
-    ensures listed { (w : ℕ) → bit result w ≡ true → w < sheet.now.word_count }
+    ensures listed { (w : ℕ) → bit result w ≡ true → w < length (words_in sheet.now) }
 {
     expected(sheet.masks(), joint(table, n))
 }
