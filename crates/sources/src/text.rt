@@ -27,12 +27,20 @@ pub struct Text<'a> {
     at: usize,
 }
 
+// The bytes from a place on, none past the end.
+fn tail(bytes: &[u8], from: usize) -> &[u8]
+    ensures { result.now ≡ drop from bytes.now }
+{
+    bytes.get(from..).unwrap_or(&[])
+}
+
 // The place after the bytes from a place on that pass a test.
 fn past<P: Fn(u8) -> bool>(bytes: &[u8], from: usize, passes: P) -> usize
     requires { (state : P) (b : ℕ) → P.pre state b }
     ensures { (test : ℕ → Bool) → ((b : ℕ) (r : Bool) → P.post passes b r → r ≡ test b) → result ≡ from + prefix_len test (drop from bytes.now) }
 {
-    from + bytes.iter().skip(from).take_while(|b| passes(**b)).count()
+    let rest = tail(bytes, from).iter();
+    from + rest.take_while(|b| passes(**b)).count()
 }
 
 fn is_allowed(b: u8) -> bool
