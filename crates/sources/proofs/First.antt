@@ -1,7 +1,5 @@
 -- What an answer tells of the meaning that it is of. Assumes nothing.
-use Rattle.std.proofs.Common.{◌≡◌, ℕ, ◌-◌, min, List, [], ◌∷◌, length, take, drop, IsErrAnd, Some, None, Ok, Err, Option, Result, sym, refl, ap, ◌∙◌, inl, inr, arith}
-use Rattle.std.proofs.lemmas.List.{take_all}
-use Rattle.std.proofs.lemmas.Bool.{cases_lt}
+use Rattle.std.proofs.Common.{◌≡◌, ℕ, List, [], ◌∷◌, drop, IsErrAnd, Some, None, Ok, Err, Option, Result, refl, ap, ◌∙◌, arith}
 use Rattle.std.proofs.lemmas.Result.{err_from_is_err_and}
 use Rattle.faults.specs.declared.Fault.{Fault}
 use Rattle.sources.specs.declared.source.Heard.{Heard}
@@ -43,10 +41,3 @@ pub handed_on : {A : Type 0} (r : Result A Fault) (f : Fault) → IsErrAnd r (λ
 handed_on r f h =
     let p = err_from_is_err_and {Q = λ y. y ≡ f} r h in
     ap telling p.1 ∙ ap (λ y. Err (told y)) p.2
-
--- a part of a list of sixteen that is cut at sixteen
-pub take_capped : {A : Type 0} (n k : ℕ) (xs : List A) → k ≡ min n 16 → length xs ≡ 16 → take (k - 0) xs ≡ take n xs
-take_capped n k xs cut long = elim (cases_lt n 16) [
-  | inl l ↦ let e : k - 0 ≡ n = omega arith in ap (λ m. take m xs) e
-  | inr l ↦ let e : k - 0 ≡ 16 = omega arith in ap (λ m. take m xs) e ∙ take_all 16 xs (omega arith) ∙ sym (take_all n xs (omega arith))
-]

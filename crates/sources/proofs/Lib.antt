@@ -1,6 +1,6 @@
 pub mod Alike
 pub mod Begun
-pub mod Bytes
+pub mod Equal
 pub mod First
 pub mod Layers
 pub mod Scans

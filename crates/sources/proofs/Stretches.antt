@@ -6,8 +6,7 @@ use Rattle.std.proofs.lemmas.List.Sums.{prefix_len-le-length}
 use Rattle.std.proofs.lemmas.Bool.{cases_Bool}
 use Rattle.faults.specs.Faults.{Told}
 use Rattle.sources.specs.Messages.{space, other, runs, verdict, worded, spoken}
-use Rattle.sources.proofs.Layers.{Takes}
-use Rattle.sources.proofs.Bytes.{takes_end, takes_fault, takes_word}
+use Rattle.sources.proofs.Layers.{Takes, takes_end, takes_fault, takes_word}
 
 step : (b : ℕ) (bs : List ℕ) (p k : ℕ) → runs (p + 1 + k) true (drop k bs) ≡ runs (p + (1 + k)) true (drop (1 + k) (b ∷ bs))
 step b bs p k =

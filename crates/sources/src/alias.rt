@@ -27,29 +27,25 @@ impl<S> Alias<S> {
             below,
         }
     }
-}
 
-fn lookup(pairs: &[grammar::Alias], word: u8) -> u8
-    ensures { result ≡ meant_by pairs.now word }
-{
-    for pair in pairs {
-        if pair.said == word {
-            return pair.meant;
-        }
+    // The word meant by a word said.
+    fn meant(&self, word: u8) -> u8
+        ensures { result ≡ meant_by (take self.now.count self.now.pairs) word }
+    {
+        let mut pairs = self.pairs.iter().take(self.count as usize);
+        let pair = pairs.find(|pair| pair.said == word);
+        pair.map_or(word, |pair| pair.meant)
     }
-    word
 }
 
 impl<S: Source> Source for Alias<S> {
     ghost meaning = { λ a. renamed (take a.count a.pairs) (S.Source.meaning a.below) };
 
     fn next(&mut self) -> Result<Option<Heard>, Fault> {
-        match self.below.next()? {
-            Some(heard) => Ok(Some(Heard {
-                word: lookup(&self.pairs[0..self.count.min(16) as usize], heard.word),
-                place: heard.place,
-            })),
-            None => Ok(None),
-        }
+        let heard = self.below.next()?;
+        Ok(heard.map(|heard| Heard {
+            word: self.meant(heard.word),
+            ..heard
+        }))
     }
 }

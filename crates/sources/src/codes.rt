@@ -33,10 +33,9 @@ impl<'a> Source for Codes<'a> {
 
     fn next(&mut self) -> Result<Option<Heard>, Fault> {
         let at = self.at;
-        if at >= self.codes.len() {
+        let Some(&word) = self.codes.get(at) else {
             return Ok(None);
-        }
-        let word = self.codes[at];
+        };
         if word >= self.count {
             return Err(Fault::new(Refusal::UnlistedWord, at, Layer::Codes));
         }

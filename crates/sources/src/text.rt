@@ -1,5 +1,5 @@
 // A message's words: runs of bytes other than a space.
-ghost use Rattle.std.specs.Prelude.{◌≡◌, ℕ, ◌+◌, ◌^◌, ◌<◌, ◌≤◌, map, length, drop, Ok, Err};
+ghost use Rattle.std.specs.Prelude.{◌≡◌, ℕ, Bool, ◌+◌, ◌^◌, ◌<◌, ◌≤◌, map, length, drop, Ok, Err};
 ghost use Rattle.std.specs.List.{prefix_len};
 ghost use Rattle.std.specs.Str.{bytes_eq};
 ghost use Rattle.faults.specs.declared.Layer.TheVariants.{Text as TextLayer};
@@ -27,24 +27,20 @@ pub struct Text<'a> {
     at: usize,
 }
 
-fn past_spaces(message: &[u8], from: usize) -> usize
-    ensures { result ≡ from + prefix_len space (drop from message.now) }
+// The bytes from a place on, none past the end.
+fn tail(bytes: &[u8], from: usize) -> &[u8]
+    ensures { result.now ≡ drop from bytes.now }
 {
-    let mut at = from;
-    while at < message.len() && message[at] == b' ' {
-        at += 1;
-    }
-    at
+    bytes.get(from..).unwrap_or(&[])
 }
 
-fn past_run(message: &[u8], from: usize) -> usize
-    ensures { result ≡ from + prefix_len other (drop from message.now) }
+// The place after the bytes from a place on that pass a test.
+fn past<P: Fn(u8) -> bool>(bytes: &[u8], from: usize, passes: P) -> usize
+    requires { (state : P) (b : ℕ) → P.pre state b }
+    ensures { (test : ℕ → Bool) → ((b : ℕ) (r : Bool) → P.post passes b r → r ≡ test b) → result ≡ from + prefix_len test (drop from bytes.now) }
 {
-    let mut at = from;
-    while at < message.len() && message[at] != b' ' {
-        at += 1;
-    }
-    at
+    let rest = tail(bytes, from).iter();
+    from + rest.take_while(|b| passes(**b)).count()
 }
 
 fn is_allowed(b: u8) -> bool
@@ -53,49 +49,20 @@ fn is_allowed(b: u8) -> bool
     is_in_word(b) || is_capital(b)
 }
 
-fn small(b: u8) -> u8
-    ensures { result ≡ lower b }
-{
-    if is_capital(b) { b + 32 } else { b }
-}
-
-// How many bytes stand before the first that is not allowed.
-fn clean(run: &[u8]) -> usize
-    ensures { result ≡ prefix_len allowed run.now }
-{
-    let mut n = 0;
-    while n < run.len() && is_allowed(run[n]) {
-        n += 1;
-    }
-    n
-}
-
 // Whether the run, in small letters, is this word.
 fn spells(spelling: &Spelling, run: &[u8]) -> bool
     ensures { result ≡ bytes_eq (text spelling.now) (map lower run.now) }
 {
-    let len = spelling.len.min(15) as usize;
-    if len != run.len() {
-        return false;
-    }
-    for i in 0..len {
-        if spelling.bytes[i] != small(run[i]) {
-            return false;
-        }
-    }
-    true
+    let letters = spelling.bytes.iter().take(spelling.len as usize).copied();
+    letters.eq(run.iter().map(|b| b.to_ascii_lowercase()))
 }
 
 fn find(words: &[Spelling], run: &[u8]) -> Option<u8>
     requires { length words.now ≤ 64 }
     ensures { result ≡ numbered 0 (map text words.now) (map lower run.now) }
 {
-    for i in 0..words.len() {
-        if spells(&words[i], run) {
-            return Some(i as u8);
-        }
-    }
-    None
+    let place = words.iter().position(|word| spells(word, run));
+    place.map(|i| i as u8)
 }
 
 fn refused(refusal: Refusal, place: usize) -> Fault
@@ -109,17 +76,14 @@ fn read_word(words: &[Spelling], run: &[u8], place: usize) -> Result<u8, Fault>
     requires run_bound { place + length run.now < 2 ^ 64 }
     ensures { telling result ≡ verdict (map text words.now) (record { place = place; bytes = run.now }) }
 {
-    let n = clean(run);
+    let n = past(run, 0, is_allowed);
     if n < run.len() {
         return Err(refused(Refusal::ByteNotAllowed, place + n));
     }
     if run.len() > 15 {
         return Err(refused(Refusal::WordTooLong, place));
     }
-    match find(words, run) {
-        Some(w) => Ok(w),
-        None => Err(refused(Refusal::UnlistedWord, place)),
-    }
+    find(words, run).ok_or_else(|| refused(Refusal::UnlistedWord, place))
 }
 
 impl<'a> Text<'a> {
@@ -143,11 +107,11 @@ impl<'a> Source for Text<'a> {
 
     fn next(&mut self) -> Result<Option<Heard>, Fault> {
         let message = self.message;
-        let start = past_spaces(message, self.at);
+        let start = past(message, self.at, |b| b == b' ');
         if start >= message.len() {
             return Ok(None);
         }
-        let end = past_run(message, start);
+        let end = past(message, start, |b| b != b' ');
         let word = read_word(self.sheet.words(), &message[start..end], start)?;
         self.at = end;
         Ok(Some(Heard { word, place: start }))
