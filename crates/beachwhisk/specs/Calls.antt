@@ -50,7 +50,7 @@ abbrev pub CountHeld : List ℕ → ℕ → List ℕ → Result ℕ Told → Typ
 CountHeld text k hall r = Given text (λ s a. Looked s k hall a (Held hall k)) (Unit {0}) r
 
 -- a reading on a scale
-abbrev pub ReadOn : Scale ℕ → List ℕ → ℕ → List ℕ → Lent ℕ → Result (Reading ℕ) Told → Lent ℕ → Type 0
+abbrev pub ReadOn : {P : Type 0} → Scale P → List ℕ → ℕ → List ℕ → Lent P → Result (Reading P) Told → Lent P → Type 0
 ReadOn S text k hall b r b' = Given text (λ s a. Read s S k hall b a b') (b' ≡ b) r
 
 -- whichever sheet of a text the calls before were made with, they left the same

@@ -1,6 +1,7 @@
 -- What the library's calls answer, in numbers. Assumes nothing.
-use Rattle.std.specs.Prelude.{ℕ, Ok, Err, Result}
-use Rattle.faults.specs.Faults.{Told}
+use Rattle.std.specs.Prelude.{◌≡◌, ℕ, Ok, Err, Result}
+use Rattle.faults.specs.declared.Fault.{Fault}
+use Rattle.faults.specs.Faults.{Told, told}
 use Rattle.readings.specs.declared.read.Reading.{Reading}
 use Rattle.beachwhisk.specs.declared.answer.Answer.{Answer}
 use Rattle.beachwhisk.specs.declared.answer.ReadAnswer.{ReadAnswer}
@@ -14,3 +15,8 @@ answer_of (Err t) = record { code = t.number; place = t.place; layer = t.layer; 
 abbrev pub reading_of : Result (Reading ℕ) Told → ReadAnswer
 reading_of (Ok d) = record { code = 0; place = 0; layer = 0; length = d.length; price = d.price }
 reading_of (Err t) = record { code = t.number; place = t.place; layer = t.layer; length = 0; price = 0 }
+
+-- the same where a price becomes a number
+abbrev pub Tells : {P : Type 0} → (P → ℕ → Type 0) → Result (Reading P) Fault → ReadAnswer → Type 0
+Tells Becomes (Ok d) answer = (price : ℕ) × Becomes d.price price × (answer ≡ reading_of (Ok (record { length = d.length; price = price })))
+Tells Becomes (Err f) answer = answer ≡ reading_of (Err (told f))

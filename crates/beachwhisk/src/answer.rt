@@ -1,13 +1,13 @@
 // What a call answers, in numbers.
-ghost use Rattle.std.specs.Prelude.{◌≡◌, Ok, Err};
+ghost use Rattle.std.specs.Prelude.{◌≡◌, Err};
 ghost use Rattle.faults.specs.Faults.{told, telling};
-ghost use Rattle.beachwhisk.specs.Told.{answer_of, reading_of};
+ghost use Rattle.beachwhisk.specs.Told.{answer_of, Tells};
 
 use faults::Fault;
 use readings::read::Reading;
 
 // Code 0 and the value, or the refusal's number with its place and its layer; what is not told is 0.
-#[derive(Drop)]
+#[derive(Clone, Copy, PartialEq, Eq, Debug)]
 #[repr(C)]
 pub struct Answer {
     pub code: u64,
@@ -16,21 +16,10 @@ pub struct Answer {
     pub value: u64,
 }
 
-impl Answer {
-    pub(crate) fn given(value: u64) -> Answer
-        ensures { result ≡ answer_of (Ok value) }
-    {
-        Answer {
-            code: 0,
-            place: 0,
-            layer: 0,
-            value,
-        }
-    }
+impl From<Fault> for Answer {
+    ghost from_gives = { λ fault answer. answer ≡ answer_of (Err (told fault)) };
 
-    pub(crate) fn refused(fault: Fault) -> Answer
-        ensures { result ≡ answer_of (Err (told fault)) }
-    {
+    fn from(fault: Fault) -> Answer {
         Answer {
             code: fault.refusal.number() as u64,
             place: fault.place as u64,
@@ -38,27 +27,34 @@ impl Answer {
             value: 0,
         }
     }
+}
 
-    pub(crate) fn counted(res: Result<usize, Fault>) -> Answer
-        ensures { result ≡ answer_of (telling res) }
-    {
-        match res {
-            Ok(count) => Answer::given(count as u64),
-            Err(fault) => Answer::refused(fault),
-        }
-    }
+impl From<Result<u64, Fault>> for Answer {
+    ghost from_gives = { λ answered answer. answer ≡ answer_of (telling answered) };
 
-    pub(crate) fn offered(res: Result<u64, Fault>) -> Answer
-        ensures { result ≡ answer_of (telling res) }
-    {
-        match res {
-            Ok(words) => Answer::given(words),
-            Err(fault) => Answer::refused(fault),
+    fn from(answered: Result<u64, Fault>) -> Answer {
+        match answered {
+            Ok(value) => Answer {
+                code: 0,
+                place: 0,
+                layer: 0,
+                value,
+            },
+            Err(fault) => fault.into(),
         }
     }
 }
 
+impl From<Result<usize, Fault>> for Answer {
+    ghost from_gives = { λ counted answer. answer ≡ answer_of (telling counted) };
+
+    fn from(counted: Result<usize, Fault>) -> Answer {
+        counted.map(|count| count as u64).into()
+    }
+}
+
 // The same of a reading: the form's length and its price.
+#[derive(Clone, Copy, PartialEq, Eq, Debug)]
 #[repr(C)]
 pub struct ReadAnswer {
     pub code: u64,
@@ -68,47 +64,36 @@ pub struct ReadAnswer {
     pub price: u64,
 }
 
-impl ReadAnswer {
-    pub(crate) fn given(length: usize, price: u32) -> ReadAnswer
-        ensures { result ≡ reading_of (Ok (record { length = length; price = price })) }
-    {
-        ReadAnswer {
-            code: 0,
-            place: 0,
-            layer: 0,
-            length: length as u64,
-            price: price as u64,
-        }
-    }
+impl<P: Into<u32>> From<Result<Reading<P>, Fault>> for ReadAnswer {
+    ghost from_gives = { λ read answer. Tells P.converts read answer };
 
-    pub(crate) fn refused(fault: Fault) -> ReadAnswer
-        ensures { result ≡ reading_of (Err (told fault)) }
-    {
-        let answer = Answer::refused(fault);
-        ReadAnswer {
-            code: answer.code,
-            place: answer.place,
-            layer: answer.layer,
-            length: 0,
-            price: 0,
-        }
-    }
-
-    pub(crate) fn by_points(res: Result<Reading<u32>, Fault>) -> ReadAnswer
-        ensures { result ≡ reading_of (telling res) }
-    {
-        match res {
-            Ok(reading) => ReadAnswer::given(reading.length, reading.price),
-            Err(fault) => ReadAnswer::refused(fault),
-        }
-    }
-
-    pub(crate) fn by_worst(res: Result<Reading<u16>, Fault>) -> ReadAnswer
-        ensures { result ≡ reading_of (telling res) }
-    {
-        match res {
-            Ok(reading) => ReadAnswer::given(reading.length, u32::from(reading.price)),
-            Err(fault) => ReadAnswer::refused(fault),
+    fn from(read: Result<Reading<P>, Fault>) -> ReadAnswer {
+        match read {
+            Ok(Reading { length, price }) => {
+                let price: u32 = price.into();
+                ReadAnswer {
+                    code: 0,
+                    place: 0,
+                    layer: 0,
+                    length: length as u64,
+                    price: u64::from(price),
+                }
+            }
+            Err(fault) => {
+                let Answer {
+                    code,
+                    place,
+                    layer,
+                    ..
+                } = fault.into();
+                ReadAnswer {
+                    code,
+                    place,
+                    layer,
+                    length: 0,
+                    price: 0,
+                }
+            }
         }
     }
 }

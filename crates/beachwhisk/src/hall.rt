@@ -1,10 +1,12 @@
 // The calls at a hall. Each loads the sheet from its text first: its refusals come before all others.
-ghost use Rattle.std.specs.Prelude.{◌≡◌, ℕ, Result};
-ghost use Rattle.faults.specs.Faults.{Told};
+ghost use Rattle.std.specs.Prelude.{◌≡◌, ℕ, Ok, Err, Result};
+ghost use Rattle.faults.specs.Faults.{Told, told, telling};
+ghost use Rattle.sheets.specs.Texts.{Loaded, Refused};
 ghost use Rattle.beachwhisk.specs.Told.{answer_of};
 ghost use Rattle.beachwhisk.specs.Calls.{Load, Open, Clear, Say, Back, Heard, Hear, Offer, CountHeld};
 
 use crate::answer::Answer;
+use faults::Fault;
 use grammar::sheet::Sheet;
 use seats::calls::{back, clear, held, offer, open, say};
 use seats::hearing::hear;
@@ -14,27 +16,33 @@ use sources::filler::Filler;
 use sources::pile::pile;
 use sources::text::Text;
 
+// The sheet of a text.
+pub(crate) fn sheet_of(text: &[u8]) -> Result<Sheet, Fault>
+    ensures { elim result [ Ok sheet ↦ Loaded text.now sheet | Err fault ↦ Refused text.now (told fault) ] }
+{
+    let mut sheet = Sheet::blank();
+    load(text, &mut sheet)?;
+    Ok(sheet)
+}
+
 // How many words the sheet has.
 #[unsafe(no_mangle)]
 pub extern "C" fn beachwhisk_load(text: &[u8]) -> Answer
     ensures { (a : Result ℕ Told) × (result ≡ answer_of a) × Load text.now a }
 {
-    let mut sheet = Sheet::blank();
-    match load(text, &mut sheet) {
-        Ok(()) => Answer::given(sheet.word_count() as u64),
-        Err(fault) => Answer::refused(fault),
-    }
+    sheet_of(text)
+        .map(|sheet| u64::from(sheet.word_count()))
+        .into()
 }
 
-// Empties all four seats.
+// Empties all four seats. A call that writes to the hall stands in a match: of what a closure writes there a proof learns nothing.
 #[unsafe(no_mangle)]
 pub extern "C" fn beachwhisk_open(text: &[u8], hall: &mut [u64]) -> Answer
     ensures { (a : Result ℕ Told) × (result ≡ answer_of a) × Open text.now hall.old a hall.new }
 {
-    let mut sheet = Sheet::blank();
-    match load(text, &mut sheet) {
-        Ok(()) => Answer::counted(open(&sheet, hall)),
-        Err(fault) => Answer::refused(fault),
+    match sheet_of(text) {
+        Ok(sheet) => open(&sheet, hall).into(),
+        Err(fault) => fault.into(),
     }
 }
 
@@ -43,10 +51,9 @@ pub extern "C" fn beachwhisk_open(text: &[u8], hall: &mut [u64]) -> Answer
 pub extern "C" fn beachwhisk_clear(text: &[u8], hall: &mut [u64], seat: usize) -> Answer
     ensures { (a : Result ℕ Told) × (result ≡ answer_of a) × Clear text.now seat hall.old a hall.new }
 {
-    let mut sheet = Sheet::blank();
-    match load(text, &mut sheet) {
-        Ok(()) => Answer::counted(clear(&sheet, hall, seat)),
-        Err(fault) => Answer::refused(fault),
+    match sheet_of(text) {
+        Ok(sheet) => clear(&sheet, hall, seat).into(),
+        Err(fault) => fault.into(),
     }
 }
 
@@ -55,10 +62,9 @@ pub extern "C" fn beachwhisk_clear(text: &[u8], hall: &mut [u64], seat: usize) -
 pub extern "C" fn beachwhisk_say(text: &[u8], hall: &mut [u64], seat: usize, word: u8) -> Answer
     ensures { (a : Result ℕ Told) × (result ≡ answer_of a) × Say text.now seat word hall.old a hall.new }
 {
-    let mut sheet = Sheet::blank();
-    match load(text, &mut sheet) {
-        Ok(()) => Answer::counted(say(&sheet, hall, seat, word)),
-        Err(fault) => Answer::refused(fault),
+    match sheet_of(text) {
+        Ok(sheet) => say(&sheet, hall, seat, word).into(),
+        Err(fault) => fault.into(),
     }
 }
 
@@ -67,21 +73,23 @@ pub extern "C" fn beachwhisk_say(text: &[u8], hall: &mut [u64], seat: usize, wor
 pub extern "C" fn beachwhisk_back(text: &[u8], hall: &mut [u64], seat: usize) -> Answer
     ensures { (a : Result ℕ Told) × (result ≡ answer_of a) × Back text.now seat hall.old a hall.new }
 {
-    let mut sheet = Sheet::blank();
-    match load(text, &mut sheet) {
-        Ok(()) => Answer::counted(back(&sheet, hall, seat)),
-        Err(fault) => Answer::refused(fault),
+    match sheet_of(text) {
+        Ok(sheet) => back(&sheet, hall, seat).into(),
+        Err(fault) => fault.into(),
     }
 }
 
 // Hears a message on the sheet; one that is too long has no source, and nothing is cleared.
-fn hear_message<'a>(sheet: &'a Sheet, hall: &mut [u64], seat: usize, message: &'a [u8]) -> Answer
-    ensures { (a : Result ℕ Told) × (result ≡ answer_of a) × Heard sheet.now seat message.now hall.old a hall.new }
+fn hear_message<'a>(
+    sheet: &'a Sheet,
+    hall: &mut [u64],
+    seat: usize,
+    message: &'a [u8],
+) -> Result<usize, Fault>
+    ensures { Heard sheet.now seat message.now hall.old (telling result) hall.new }
 {
-    match pile(sheet, message) {
-        Ok(mut source) => Answer::counted(hear(sheet, hall, seat, &mut source)),
-        Err(fault) => Answer::refused(fault),
-    }
+    let mut source = pile(sheet, message)?;
+    hear(sheet, hall, seat, &mut source)
 }
 
 // Hears a message through the server's pile: filler over alias over text.
@@ -94,10 +102,9 @@ pub extern "C" fn beachwhisk_hear(
 ) -> Answer
     ensures { (a : Result ℕ Told) × (result ≡ answer_of a) × Hear text.now seat message.now hall.old a hall.new }
 {
-    let mut sheet = Sheet::blank();
-    match load(text, &mut sheet) {
-        Ok(()) => hear_message(&sheet, hall, seat, message),
-        Err(fault) => Answer::refused(fault),
+    match sheet_of(text) {
+        Ok(sheet) => hear_message(&sheet, hall, seat, message).into(),
+        Err(fault) => fault.into(),
     }
 }
 
@@ -106,11 +113,9 @@ pub extern "C" fn beachwhisk_hear(
 pub extern "C" fn beachwhisk_offer(text: &[u8], hall: &[u64], seat: usize) -> Answer
     ensures { (a : Result ℕ Told) × (result ≡ answer_of a) × Offer text.now seat hall.now a }
 {
-    let mut sheet = Sheet::blank();
-    match load(text, &mut sheet) {
-        Ok(()) => Answer::offered(offer(&sheet, hall, seat)),
-        Err(fault) => Answer::refused(fault),
-    }
+    sheet_of(text)
+        .and_then(|sheet| offer(&sheet, hall, seat))
+        .into()
 }
 
 // How many bits of the seat's table are set.
@@ -118,9 +123,7 @@ pub extern "C" fn beachwhisk_offer(text: &[u8], hall: &[u64], seat: usize) -> An
 pub extern "C" fn beachwhisk_held(text: &[u8], hall: &[u64], seat: usize) -> Answer
     ensures { (a : Result ℕ Told) × (result ≡ answer_of a) × CountHeld text.now seat hall.now a }
 {
-    let mut sheet = Sheet::blank();
-    match load(text, &mut sheet) {
-        Ok(()) => Answer::counted(held(&sheet, hall, seat)),
-        Err(fault) => Answer::refused(fault),
-    }
+    sheet_of(text)
+        .and_then(|sheet| held(&sheet, hall, seat))
+        .into()
 }

@@ -6,6 +6,8 @@ use sheets::load::load;
 use std::alloc::{AllocError, Global};
 
 #[cfg(test)]
+mod expecting;
+#[cfg(test)]
 mod limits;
 #[cfg(test)]
 mod refusals;
@@ -30,7 +32,7 @@ pub(crate) fn lines(
 ) -> Result<String, AllocError> {
     let mut text = String::new(heap);
     for i in 0..count {
-        text.push_str(format!(in heap; "{before}{i}{after}\n")?.as_str())?;
+        writeln!(text, "{before}{i}{after}")?;
     }
     Ok(text)
 }

@@ -1,10 +1,5 @@
 // Every refusal of a text by a small example.
-use super::verdict;
-use std::process::Abort;
-
-fn expect(rt: &impl Abort, text: &[u8], number: u8, place: usize) {
-    assert_eq!(rt; verdict(text), (number, place));
-}
+use super::expecting::expect;
 
 #[test]
 fn line_shapes(rt: HostRuntime) {

@@ -1,9 +1,12 @@
-// Rounds of calls for the benchmark, over memory that the caller owns. A refusal is answered by the largest number.
+// Rounds of calls for the benchmark, over memory that the caller owns. A refusal is answered by the largest number:
+// C takes one number.
 #![tactic(auto)]
 
+use faults::Fault;
 use grammar::sheet::Sheet;
 use reader::read::read;
-use readings::scale::{Points, Worst};
+use readings::read::Reading;
+use readings::scale::{Points, Scale, Worst};
 use seats::calls::{open, say};
 use seats::hearing::hear;
 use sheets::load::load;
@@ -12,37 +15,41 @@ use sources::filler::Filler;
 use sources::pile::pile;
 use sources::text::Text;
 
+fn answered(res: Result<usize, Fault>) -> u64 {
+    res.map_or(u64::MAX, |count| count as u64)
+}
+
+fn sheet_of(text: &[u8]) -> Result<Sheet, Fault> {
+    let mut sheet = Sheet::blank();
+    load(text, &mut sheet)?;
+    Ok(sheet)
+}
+
 // Loads the sheet many times over; how many words it has.
 #[unsafe(no_mangle)]
 pub extern "C" fn load_rounds(text: &[u8], rounds: u32) -> u64 {
     let mut words = 0;
     for _ in 0..rounds {
-        let mut sheet = Sheet::blank();
-        if load(text, &mut sheet).is_err() {
-            return u64::MAX;
-        }
-        words = sheet.word_count() as u64;
+        words = answered(sheet_of(text).map(|sheet| sheet.word_count() as usize));
     }
     words
 }
 
 // Says a word where `standing` words are to stand, whatever came after them.
 fn say_at(sheet: &Sheet, hall: &mut [u64], standing: u64, word: u8) -> u64 {
-    if hall.len() != 3780 {
-        return u64::MAX;
+    if let Some(count) = hall.first_mut() {
+        *count = standing;
     }
-    hall[0] = standing;
-    match say(sheet, hall, 0, word) {
-        Ok(count) => count as u64,
-        Err(_) => u64::MAX,
-    }
+    answered(say(sheet, hall, 0, word))
 }
 
 // Says the words at the first seat, and then the last of them many times over in its place; how many stand.
 #[unsafe(no_mangle)]
 pub extern "C" fn say_rounds(text: &[u8], words: &[u8], hall: &mut [u64], rounds: u32) -> u64 {
-    let mut sheet = Sheet::blank();
-    if load(text, &mut sheet).is_err() || open(&sheet, hall).is_err() {
+    let Ok(sheet) = sheet_of(text) else {
+        return u64::MAX;
+    };
+    if open(&sheet, hall).is_err() {
         return u64::MAX;
     }
     let mut standing = 0;
@@ -60,36 +67,54 @@ pub extern "C" fn say_rounds(text: &[u8], words: &[u8], hall: &mut [u64], rounds
 }
 
 // Hears a message at the first seat; how many words stand.
-fn hear_once<'a>(sheet: &'a Sheet, message: &'a [u8], hall: &mut [u64]) -> u64 {
-    match pile(sheet, message) {
-        Ok(mut source) => match hear(sheet, hall, 0, &mut source) {
-            Ok(count) => count as u64,
-            Err(_) => u64::MAX,
-        },
-        Err(_) => u64::MAX,
-    }
+fn hear_once<'a>(sheet: &'a Sheet, message: &'a [u8], hall: &mut [u64]) -> Result<usize, Fault> {
+    let mut source = pile(sheet, message)?;
+    hear(sheet, hall, 0, &mut source)
 }
 
 // Hears a message many times over; how many words stand.
 #[unsafe(no_mangle)]
 pub extern "C" fn hear_rounds(text: &[u8], message: &[u8], hall: &mut [u64], rounds: u32) -> u64 {
-    let mut sheet = Sheet::blank();
-    if load(text, &mut sheet).is_err() {
+    let Ok(sheet) = sheet_of(text) else {
         return u64::MAX;
-    }
+    };
     let mut standing = 0;
     for _ in 0..rounds {
-        standing = hear_once(&sheet, message, hall);
+        standing = answered(hear_once(&sheet, message, hall));
     }
     standing
 }
 
 // The form's length and the price as one number.
-fn packed(length: usize, price: u32) -> u64 {
-    (length as u64 % 65536) << 32 | price as u64
+fn packed<P: Into<u32>>(reading: Reading<P>) -> u64 {
+    (reading.length as u64 % 65536) << 32 | u64::from(reading.price.into())
 }
 
-// Hears a message many times over and reads it on points; the form's length and the price.
+// Hears a message many times over and reads it on a scale; the form's length and the price.
+fn read_rounds<C: Scale>(
+    text: &[u8],
+    message: &[u8],
+    hall: &mut [u64],
+    list: &mut [u8],
+    prices: &mut [C::Price],
+    numbers: &mut [u32],
+    rounds: u32,
+) -> u64
+where
+    C::Price: Into<u32>,
+{
+    let Ok(sheet) = sheet_of(text) else {
+        return u64::MAX;
+    };
+    let mut answer = 0;
+    for _ in 0..rounds {
+        let _ = hear_once(&sheet, message, hall);
+        answer = read::<C>(&sheet, hall, 0, list, prices, numbers).map_or(u64::MAX, packed);
+    }
+    answer
+}
+
+// Reads on points.
 #[unsafe(no_mangle)]
 pub extern "C" fn points_rounds(
     text: &[u8],
@@ -100,22 +125,10 @@ pub extern "C" fn points_rounds(
     numbers: &mut [u32],
     rounds: u32,
 ) -> u64 {
-    let mut sheet = Sheet::blank();
-    if load(text, &mut sheet).is_err() {
-        return u64::MAX;
-    }
-    let mut answer = 0;
-    for _ in 0..rounds {
-        let _ = hear_once(&sheet, message, hall);
-        answer = match read::<Points>(&sheet, hall, 0, list, prices, numbers) {
-            Ok(reading) => packed(reading.length, reading.price),
-            Err(_) => u64::MAX,
-        };
-    }
-    answer
+    read_rounds::<Points>(text, message, hall, list, prices, numbers, rounds)
 }
 
-// The same on worst.
+// Reads on worst.
 #[unsafe(no_mangle)]
 pub extern "C" fn worst_rounds(
     text: &[u8],
@@ -126,17 +139,5 @@ pub extern "C" fn worst_rounds(
     numbers: &mut [u32],
     rounds: u32,
 ) -> u64 {
-    let mut sheet = Sheet::blank();
-    if load(text, &mut sheet).is_err() {
-        return u64::MAX;
-    }
-    let mut answer = 0;
-    for _ in 0..rounds {
-        let _ = hear_once(&sheet, message, hall);
-        answer = match read::<Worst>(&sheet, hall, 0, list, prices, numbers) {
-            Ok(reading) => packed(reading.length, reading.price as u32),
-            Err(_) => u64::MAX,
-        };
-    }
-    answer
+    read_rounds::<Worst>(text, message, hall, list, prices, numbers, rounds)
 }

@@ -1,14 +1,10 @@
 use Rattle.std.proofs.Common.{Err, refl}
-use Rattle.faults.specs.Faults.{told}
+use Rattle.faults.specs.Faults.{told, telling}
 use Rattle.beachwhisk.specs.Calls.{done, no_sheet}
 use Rattle.beachwhisk.proofs.hall.beachwhisk_hear.Goals as goal
 
 pub returns-in-Ok : goal.returns-in-Ok
-returns-in-Ok c =
-    let x = c.hear_message.ensures in
-    (x.0, x.1, done c.load.new.sheet c.in-Ok.ensures x.2)
+returns-in-Ok c = (telling c.hear_message.result, c.into.ensures, done c.in-Ok.sheet c.in-Ok.ensures c.hear_message.ensures)
 
 pub returns-in-Err : goal.returns-in-Err
-returns-in-Err c =
-    let t = told c.in-Err.fault in
-    (Err t, c.refused.ensures, no_sheet t c.in-Err.ensures.0 refl refl)
+returns-in-Err c = let t = told c.in-Err.fault in (Err t, c.into-in-Err.ensures, no_sheet t c.in-Err.ensures refl refl)

@@ -1,28 +1,27 @@
 use Rattle.std.proofs.Common.{Err, refl, ap, subst}
-use Rattle.faults.specs.Faults.{told, telling}
+use Rattle.std.proofs.lemmas.Result.{err_from_is_err_and}
+use Rattle.faults.specs.Faults.{telling}
 use Rattle.sources.specs.Values.{pile_means}
 use Rattle.seats.specs.Standing.{hear_at}
 use Rattle.seats.specs.Calls.{Anew, Keeps}
 use Rattle.beachwhisk.specs.Calls.{too_long, heard}
 use Rattle.beachwhisk.proofs.hall.hear_message.Goals as goal
 
-pub returns-in-Ok : goal.returns-in-Ok
-returns-in-Ok c =
+pub returns-in_err-source : goal.returns-in_err-source
+returns-in_err-source c =
+    let got = c.in_err-source.ensures in
+    let p = err_from_is_err_and c.from_residual.result c.from_residual.ensures.1 in
+    rw (p.1, p.2) (too_long got.0 (ap Err got.1) refl)
+
+pub returns : goal.returns
+returns c =
     let s = c.args.sheet.now in
     let k = c.args.seat in
     let hall = c.args.hall.now in
     let hall' = c.hear.new.hall in
-    let got = c.in-Ok.ensures in
+    let got = c.in_ok-source.ensures in
     let r = telling c.hear.result in
-    let rest = hear_at k (pile_means c.hear.new.source) in (
-      r,
-      c.counted.ensures,
-      heard got.0 rest
-          (subst (λ m. Anew s k (hear_at k m) hall r hall' rest) got.1 c.hear.ensures.made)
-          (subst (λ m. Keeps s (hear_at k m) hall hall') got.1 c.hear.ensures.kept),
-    )
-
-pub returns-in-Err : goal.returns-in-Err
-returns-in-Err c =
-    let got = c.in-Err.ensures in
-    (Err (told c.in-Err.fault), c.refused.ensures, too_long got.0 (ap Err got.1) refl)
+    let rest = hear_at k (pile_means c.hear.new.source) in
+    heard got.0 rest
+    (subst (λ m. Anew s k (hear_at k m) hall r hall' rest) got.1 c.hear.ensures.made)
+    (subst (λ m. Keeps s (hear_at k m) hall hall') got.1 c.hear.ensures.kept)
