@@ -23,6 +23,10 @@ words_in s = texts s.draft.words.len s.draft.words.items
 abbrev pub aliases_in : Sheet → List Alias
 aliases_in s = take s.draft.aliases.len s.draft.aliases.items
 
+-- the filler words, a bit for each
+abbrev pub fillers_in : Sheet → ℕ
+fillers_in s = s.draft.fillers
+
 -- a rule without the unused part of its array
 pub record Plain : Type 0 where
   pub weight : ℕ
@@ -38,7 +42,7 @@ pub record Alike (s t : Sheet) : Type 0 where
   pub words : words_in s ≡ words_in t
   pub rules : map plain (rules_of s) ≡ map plain (rules_of t)
   pub aliases : aliases_in s ≡ aliases_in t
-  pub fillers : s.draft.fillers ≡ t.draft.fillers
+  pub fillers : fillers_in s ≡ fillers_in t
 
 -- one rule, weight 0, name `A`, no symbols; nothing else
 pub record Blank (s : Sheet) : Type 0 where
@@ -46,4 +50,4 @@ pub record Blank (s : Sheet) : Type 0 where
   pub names : names_in s ≡ (65 ∷ []) ∷ []
   pub words : words_in s ≡ []
   pub aliases : aliases_in s ≡ []
-  pub fillers : s.draft.fillers ≡ 0
+  pub fillers : fillers_in s ≡ 0

@@ -16,4 +16,4 @@ abbrev pub text_means : Text → Meaning
 text_means t = spoken (words_in t.sheet.now) t.at (drop t.at t.message.now)
 
 abbrev pub pile_means : Filler (Alias Text) → Meaning
-pile_means p = without p.fillers (renamed (take p.below.count p.below.pairs) (text_means p.below.below))
+pile_means p = without p.fillers (renamed (take p.below.pairs.len p.below.pairs.items) (text_means p.below.below))

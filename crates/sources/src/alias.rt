@@ -6,40 +6,36 @@ ghost use Rattle.sources.specs.Meanings.{meant_by, renamed};
 use super::source::{Heard, Source};
 use faults::Fault;
 use grammar::sheet::Sheet;
+use grammar::shelf::Shelf;
 
 #[derive(Drop)]
 pub struct Alias<S> {
-    pairs: [grammar::Alias; 16],
-    count: u8,
+    pairs: Shelf<grammar::Alias, 16>,
     below: S,
 }
 
 impl<S> Alias<S> {
     // With the sheet's aliases, copied.
     pub fn over(sheet: &Sheet, below: S) -> Self
-        ensures pairs { take result.count result.pairs ≡ aliases_in sheet.now }
+        ensures pairs { take result.pairs.len result.pairs.items ≡ aliases_in sheet.now }
         ensures below { result.below ≡ below }
     {
-        let (pairs, count) = sheet.alias_table();
-        Alias {
-            pairs,
-            count,
-            below,
-        }
+        let pairs = sheet.alias_table();
+        Alias { pairs, below }
     }
 
     // The word meant by a word said.
     fn meant(&self, word: u8) -> u8
-        ensures { result ≡ meant_by (take self.now.count self.now.pairs) word }
+        ensures { result ≡ meant_by (take self.now.pairs.len self.now.pairs.items) word }
     {
-        let mut pairs = self.pairs.iter().take(self.count as usize);
+        let mut pairs = self.pairs.as_slice().iter();
         let pair = pairs.find(|pair| pair.said == word);
         pair.map_or(word, |pair| pair.meant)
     }
 }
 
 impl<S: Source> Source for Alias<S> {
-    ghost meaning = { λ a. renamed (take a.count a.pairs) (S.Source.meaning a.below) };
+    ghost meaning = { λ a. renamed (take a.pairs.len a.pairs.items) (S.Source.meaning a.below) };
 
     fn next(&mut self) -> Result<Option<Heard>, Fault> {
         let heard = self.below.next()?;

@@ -1,12 +1,13 @@
 // Filler words are left out.
 ghost use Rattle.std.specs.Prelude.{◌≡◌};
-ghost use Rattle.grammar.specs.Bits.{has};
+ghost use Rattle.grammar.specs.View.{fillers_in};
 ghost use Rattle.sources.specs.Meanings.{without};
 ghost use Rattle.sources.specs.Laws.{FillersOnly};
 
 use super::source::{Heard, Source};
 use faults::Fault;
 use grammar::sheet::Sheet;
+use items::few::holds;
 
 #[derive(Drop)]
 pub struct Filler<S> {
@@ -17,7 +18,7 @@ pub struct Filler<S> {
 impl<S> Filler<S> {
     // With the sheet's fillers, copied.
     pub fn over(sheet: &Sheet, below: S) -> Self
-        ensures fillers { result.fillers ≡ sheet.now.fillers }
+        ensures fillers { result.fillers ≡ fillers_in sheet.now }
         ensures below { result.below ≡ below }
     {
         let fillers = sheet.fillers();
@@ -25,18 +26,12 @@ impl<S> Filler<S> {
     }
 }
 
-fn is_filler(fillers: u64, word: u8) -> bool
-    ensures { result ≡ has fillers word }
-{
-    word < 64 && fillers >> word & 1 == 1
-}
-
 impl<S: Source> Source for Filler<S> {
     ghost meaning = { λ f. without f.fillers (S.Source.meaning f.below) };
 
     fn next(&mut self) -> Result<Option<Heard>, Fault> {
         while let Some(heard) = self.below.next()? {
-            if !is_filler(self.fillers, heard.word) {
+            if !holds(self.fillers, heard.word) {
                 return Ok(Some(heard));
             }
         }
@@ -45,8 +40,6 @@ impl<S: Source> Source for Filler<S> {
 }
 
 // The layer changes nothing exactly where no word is a filler.
-pub fn fillers_alone_are_left_out() -> u8
+pub fn fillers_alone_are_left_out()
     ensures { FillersOnly }
-{
-    0
-}
+{}

@@ -119,8 +119,6 @@ impl<'a> Source for Text<'a> {
 }
 
 // The runs are the stretches that begin at a byte other than a space, after a space or at the start.
-pub fn runs_begin_after_spaces() -> u8
+pub fn runs_begin_after_spaces()
     ensures { RunsByBegins }
-{
-    0
-}
+{}

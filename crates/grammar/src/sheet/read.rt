@@ -3,9 +3,10 @@ ghost use Rattle.std.specs.Prelude.{◌≡◌, ℕ, ◌+◌, ◌^◌, ◌<◌, �
 ghost use Rattle.grammar.specs.Grammar.{places};
 ghost use Rattle.grammar.specs.Closure.{Empties, HasTree};
 ghost use Rattle.grammar.specs.Masked.{Masked};
-ghost use Rattle.grammar.specs.View.{rules_of, grammar_of, names_in, words_in, aliases_in};
+ghost use Rattle.grammar.specs.View.{rules_of, grammar_of, names_in, words_in, aliases_in, fillers_in};
 
 use super::super::masks::Masks;
+use super::super::shelf::Shelf;
 use super::super::{Alias, Rule, Spelling};
 use super::Sheet;
 use items::few::holds;
@@ -62,17 +63,19 @@ impl Sheet {
         self.draft.aliases.as_slice()
     }
 
-    // The aliases as a table, and how many of it are used.
-    pub fn alias_table(&self) -> ([Alias; 16], u8)
-        ensures used { take result.1 result.0 ≡ aliases_in self.now }
-        ensures few { result.1 ≤ 16 }
+    // The aliases, copied.
+    pub fn alias_table(&self) -> Shelf<Alias, 16>
+        ensures { take result.len result.items ≡ aliases_in self.now }
     {
-        (self.draft.aliases.items, self.draft.aliases.len as u8)
+        Shelf {
+            items: self.draft.aliases.items,
+            len: self.draft.aliases.len,
+        }
     }
 
     // The filler words, a bit for each.
     pub fn fillers(&self) -> u64
-        ensures { result ≡ self.now.draft.fillers }
+        ensures { result ≡ fillers_in self.now }
     {
         self.draft.fillers
     }
@@ -92,11 +95,9 @@ impl Sheet {
     }
 
     // Every name of a sheet has a tree: what the type keeps, for callers to cite.
-    pub fn every_name_has_a_tree(&self) -> u8
+    pub fn every_name_has_a_tree(&self)
         ensures { (a : ℕ) → a < length (names_in self.now) → HasTree (rules_of self.now) a }
-    {
-        0
-    }
+    {}
 
     // The first dotted place of each rule, and after them how many places there are.
     pub fn first_places(&self) -> &[u16]
