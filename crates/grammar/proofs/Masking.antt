@@ -4,6 +4,7 @@ use native.Mathlib.Nat.{zero-div}
 use lib.Dec.{eqb-suc-suc, eqb-suc-zero, eqb-zero-suc}
 use Rattle.std.proofs.lemmas.List.{drop_all}
 use Rattle.items.specs.Members.{member}
+use Rattle.std.proofs.Math.Bool.{or-false}
 use Rattle.items.specs.declared.Items.{Items}
 use Rattle.grammar.specs.declared.Symbol.{Symbol}
 use Rattle.grammar.specs.declared.Symbol.TheVariants.{Name, Word}
@@ -38,11 +39,7 @@ held_none x none set = record {
 -- ---- one place more
 
 or_none : (a b c : Bool) → c ≡ false → (a || (b && c)) ≡ a
-or_none a true c e = ap (λ x. a || x) e ∙ or_false a
-  where
-    or_false : (a : Bool) → (a || false) ≡ a
-    or_false true = refl
-    or_false false = refl
+or_none a true c e = ap (λ x. a || x) e ∙ or-false a
 or_none true false c e = refl
 or_none false false c e = refl
 

@@ -11,7 +11,6 @@ use Rattle.grammar.specs.declared.draft.Draft.{Draft}
 use Rattle.grammar.specs.Bits.{has}
 use Rattle.grammar.specs.inner.Drafts.{Renamed}
 use Rattle.grammar.specs.Limits.{no_alias}
-use Rattle.grammar.proofs.Fronts.{take_sub_zero}
 use Rattle.sheets.specs.Lines.{Line, rule, alias, filler}
 use Rattle.sheets.specs.Spellings.{member, with_one, names_of, words_of}
 use Rattle.sheets.specs.Limits.{Renaming, productions, renamings, fillers_of, said_in, places_of, Short, Room, Within}
@@ -24,19 +23,6 @@ use Rattle.sheets.proofs.Grown.{grows_length, still_at}
 use Rattle.sheets.proofs.Pushing.{aliases_count, apart_words}
 use Rattle.sheets.proofs.Stays.{all_aliased}
 use Rattle.sheets.proofs.Held.{worded, word_at, aliased, room, more}
-
--- what is said, over aliases one after the other
-module _ (aliases : List Alias) (i w : ℕ) where
-  pub said_found : i < length aliases → said_among w aliases ≡ said_among w (drop i aliases) → (get_or aliases i no_alias).said ≡ w → true ≡ said_among w aliases
-  said_found h inv e =
-      sym (inv ∙ at_drop_more (said_among w) aliases i no_alias h ∙ or_left (eqb (get_or aliases i no_alias).said w) (said_among w (drop (i + 1) aliases)) (eq-eqb _ _ e))
-
-  pub said_more : i < length aliases → said_among w aliases ≡ said_among w (drop i aliases) → ((get_or aliases i no_alias).said ≡ w → ⊥) → said_among w aliases ≡ said_among w (drop (i + 1) aliases)
-  said_more h inv n =
-      inv ∙ at_drop_more (said_among w) aliases i no_alias h ∙ ap (λ b. b || said_among w (drop (i + 1) aliases)) (ne_eqb _ _ n)
-
-  pub said_none : length aliases ≤ i → said_among w aliases ≡ said_among w (drop i aliases) → false ≡ said_among w aliases
-  said_none h inv = sym (inv ∙ at_drop_all (said_among w) aliases i h)
 
 abbrev said_of : List Renaming → List (List ℕ)
 said_of rs = map (λ r. r.said) rs
@@ -79,33 +65,32 @@ module _ (before : List Line) (s m : List ℕ) (i j : ℕ) (d e f : Draft) (draf
       let grown = grows_length (with_one (words_of before) s) (m ∷ []) in
       (let below = at.0 in omega arith, still_at (with_one (words_of before) s) (m ∷ []) i at.0 ∙ at.1)
 
-  -- the draft says whether a line before has an alias for the word; the code has the part `&s[0..n]` as `take (n - 0)`
-  said_before : member s (said_in before) ≡ said_among i (take (f.alias_count - 0) f.aliases)
+  -- the draft says whether a line before has an alias for the word
+  said_before : member s (said_in before) ≡ said_among i (take f.aliases.len f.aliases.items)
   said_before =
       ap (member s) (said_lines before ∙ ap said_of (sym alias_held.aliases))
-      ∙ said_all W' s i (apart_all (words_of before) (s ∷ (m ∷ [])) (apart_words before)) said_at.0 said_at.1 (take f.alias_count f.aliases)
-      (all_aliased (length W') f.alias_count f.aliases (aliased before (names_of before) W' f alias_held))
-      ∙ ap (said_among i) (sym (take_sub_zero f.alias_count f.aliases))
+      ∙ said_all W' s i (apart_all (words_of before) (s ∷ (m ∷ [])) (apart_words before)) said_at.0 said_at.1 (take f.aliases.len f.aliases.items)
+      (all_aliased (length W') f.aliases.len f.aliases.items (aliased before (names_of before) W' f alias_held))
 
   alias_more : (g : Draft) → Renamed f (record { said = i; meant = j }) g → Drafted (before ++ (alias s m ∷ [])) g
   alias_more g r =
       let at = word_at before (names_of before) W' m j e f second alias_held in
       let new : renaming W' (record { said = i; meant = j }) ≡ record { said = s; meant = m } = (let a = said_at.1 in let b = at.1 in cc) in
-      more before (alias s m) f g alias_held r.names r.name_count r.words r.word_count (r.rule_count ∙ sym (add-zero f.rule_count)) r.alias_count
-      ((let a = r.rules in let b = r.rule_count in let q = alias_held.rules in cc) ∙ sym (append-nil (productions before)))
-      (ap (map (renaming W')) r.aliases ∙ map_push (renaming W') (take f.alias_count f.aliases) (record { said = i; meant = j })
+      more before (alias s m) f g alias_held r.names r.words ((let a = r.rules in cc) ∙ sym (add-zero f.rules.len)) r.alias_count
+      ((let a = r.rules in let q = alias_held.rules in cc) ∙ sym (append-nil (productions before)))
+      (ap (map (renaming W')) r.aliases ∙ map_push (renaming W') (take f.aliases.len f.aliases.items) (record { said = i; meant = j })
       ∙ (let q = alias_held.aliases in cc))
-      ((let a = r.starts in let b = r.rule_count in let q = alias_held.places in cc) ∙ sym (add-zero (places_of before)))
+      ((let a = r.starts in let b = r.rules in let q = alias_held.places in cc) ∙ sym (add-zero (places_of before)))
       (λ w l. ap (λ set. has set w) r.fillers ∙ alias_held.fillers w l ∙ ap (member (get_or W' w [])) (sym (append-nil (fillers_of before))))
       (λ t q. absurd (clash q))
 
-  pub alias_line : (again : Bool) (g : Draft) → again ≡ said_among i (take (f.alias_count - 0) f.aliases) → Renamed f (record { said = i; meant = j }) g → Short s → Short m
+  pub alias_line : (again : Bool) (g : Draft) → again ≡ said_among i (take f.aliases.len f.aliases.items) → Renamed f (record { said = i; meant = j }) g → Short s → Short m
       → Drafted (before ++ (alias s m ∷ [])) g × Within before (alias s m) × (again ≡ member s (said_in before))
   alias_line again g found r short-said short-meant =
       let done = alias_more g r in (done, ((short-said, short-meant), room (before ++ (alias s m ∷ [])) g done), found ∙ sym said_before)
 
   -- a seventeenth alias
-  pub full : 16 ≤ f.alias_count → Room (before ++ (alias s m ∷ [])) → ⊥
+  pub full : 16 ≤ f.aliases.len → Room (before ++ (alias s m ∷ [])) → ⊥
   full many fits =
       let q = aliases_count before (alias s m ∷ []) in
       let t = alias_held.alias_total in

@@ -1,9 +1,10 @@
 -- Bytes cut at their first tab or end of line.
-use Rattle.std.proofs.Common.{◌≡◌, ℕ, zero, suc, ◌+◌, ◌-◌, ◌*◌, ◌<◌, ◌≤◌, Bool, true, not, eqb, leb, List, [], ◌∷◌, ◌++◌, length, get_or, take, drop, sym, refl, ap, ◌∙◌, subst, arith, ne_eqb}
-use native.Mathlib.Nat.{sub-zero}
+use Rattle.std.proofs.Common.{◌≡◌, ℕ, zero, suc, ◌+◌, ◌-◌, ◌*◌, ◌<◌, ◌≤◌, Bool, true, not, cond, eqb, leb, ltb, List, [], ◌∷◌, ◌++◌, length, get_or, take, drop, position, unwrap_or, Some, None, sym, refl, ap, ◌∙◌, subst, subst₂, inl, inr, one-add, arith, ne_eqb, length-take, lt-ltb, le-ltb, eqb-true}
+use Rattle.std.specs.List.{prefix_len}
 use borrow.Author.Tests.{eqb-false}
-use Rattle.std.proofs.lemmas.List.{take_more, take_rest, take-append-drop, at_drop_more}
-use Rattle.std.proofs.lemmas.Bool.{and_parts, and_from, not-true, leb-true}
+use Rattle.std.proofs.lemmas.List.{take_rest, at_drop_more}
+use Rattle.std.proofs.lemmas.List.Folds.{length-prefix_len}
+use Rattle.std.proofs.lemmas.Bool.{cases_Bool, cases_lt, cond-true, cond-false, and_parts, and_from, not-true, not-false, leb-true}
 use Rattle.grammar.specs.Letters.{every, digit}
 use Rattle.sheets.specs.inner.Fields.{other, Opens, Cut}
 use Rattle.sheets.specs.Limits.{number_after}
@@ -13,10 +14,6 @@ every_append p [] ys h k = k
 every_append p (x ∷ xs) ys h k =
     let e = and_parts (p x) (every p xs) h in and_from (p x) (every p (xs ++ ys)) e.0 (every_append p xs ys e.1 k)
 
-pub every_more_taken : (p : ℕ → Bool) (xs : List ℕ) (i : ℕ) → i < length xs → every p (take i xs) ≡ true → p (get_or xs i 0) ≡ true → every p (take (i + 1) xs) ≡ true
-every_more_taken p xs i l h k =
-    subst (λ ys. every p ys ≡ true) (sym (take_more xs i 0 l)) (every_append p (take i xs) (get_or xs i 0 ∷ []) h (and_from (p (get_or xs i 0)) true k refl))
-
 pub every_at : (p : ℕ → Bool) (xs : List ℕ) (i : ℕ) → every p xs ≡ true → i < length xs → p (get_or xs i 0) ≡ true
 every_at p [] i h l = absurd (omega arith)
 every_at p (x ∷ xs) zero h l = (and_parts (p x) (every p xs) h).0
@@ -25,16 +22,36 @@ every_at p (x ∷ xs) (suc i) h l = every_at p xs i (and_parts (p x) (every p xs
 pub other_from : (b c : ℕ) → (c ≡ b → ⊥) → other b c ≡ true
 other_from b c n = ap not (ne_eqb c b n)
 
-opens_drop : (b : ℕ) (bs : List ℕ) (r : ℕ) → (r < length bs → get_or bs r 0 ≡ b) → Opens b (drop r bs)
-opens_drop b [] zero h = tt
-opens_drop b [] (suc r) h = tt
-opens_drop b (c ∷ bs) zero h = h (omega arith)
-opens_drop b (c ∷ bs) (suc r) h = opens_drop b bs r (λ l. h (omega arith))
+prefix_len_le : (p : ℕ → Bool) (xs : List ℕ) → prefix_len p xs ≤ length xs
+prefix_len_le p xs = omega (arith, length-prefix_len p xs, length-take (prefix_len p xs) xs)
 
-pub cut_at : (b : ℕ) (bs : List ℕ) (r : ℕ) → every (other b) (take r bs) ≡ true → (r < length bs → get_or bs r 0 ≡ b) → Cut b bs (take (r - 0) bs) (take (length bs - r) (drop r bs))
-cut_at b bs r free found =
-    subst (λ n. Cut b bs (take n bs) (take (length bs - r) (drop r bs))) (sym (sub-zero r))
-    (subst (λ ys. Cut b bs (take r bs) ys) (sym (take_rest bs r)) (sym (take-append-drop r bs), free, opens_drop b bs r found))
+-- the bytes before the first b, and the rest
+cut_first : (b : ℕ) (bs : List ℕ) → Cut b bs (take (prefix_len (other b) bs) bs) (drop (prefix_len (other b) bs) bs)
+cut_first b [] = (refl, refl, tt)
+cut_first b (c ∷ bs) = elim (cases_Bool (other b c)) [
+  | inl e ↦
+      let h = cut_first b bs in
+      subst (λ n. Cut b (c ∷ bs) (take n (c ∷ bs)) (drop n (c ∷ bs))) (sym (one-add (prefix_len (other b) bs)) ∙ sym (cond-true (other b c) (1 + prefix_len (other b) bs) 0 e))
+      (ap (λ x. c ∷ x) h.0, and_from (other b c) (every (other b) (take (prefix_len (other b) bs) bs)) e h.1, h.2)
+  | inr e ↦ subst (λ n. Cut b (c ∷ bs) (take n (c ∷ bs)) (drop n (c ∷ bs))) (sym (cond-false (other b c) (1 + prefix_len (other b) bs) 0 e)) (refl, refl, eqb-true c b (not-false (eqb c b) e))
+]
+
+pub end_at : (b : ℕ) (bs : List ℕ) → unwrap_or (position (λ c. eqb c b) bs) (length bs) ≡ prefix_len (other b) bs
+end_at b bs =
+    let n = prefix_len (other b) bs in
+    let few = prefix_len_le (other b) bs in
+    elim (cases_lt n (length bs)) [
+      | inl l ↦ ap (λ o. unwrap_or o (length bs)) (cond-true (ltb n (length bs)) (Some n) None (lt-ltb n (length bs) l))
+      | inr l ↦ ap (λ o. unwrap_or o (length bs)) (cond-false (ltb n (length bs)) (Some n) None (le-ltb n (length bs) l)) ∙ (omega arith)
+    ]
+
+-- cut there
+pub cut_there : (b : ℕ) (bs front rest : List ℕ) (n : ℕ) → n ≡ unwrap_or (position (λ c. eqb c b) bs) (length bs) → front ≡ take n bs → rest ≡ drop n bs → Cut b bs front rest
+cut_there b bs front rest n at f r =
+    subst₂ (Cut b bs) (sym (f ∙ ap (λ k. take k bs) (at ∙ end_at b bs))) (sym (r ∙ ap (λ k. drop k bs) (at ∙ end_at b bs))) (cut_first b bs)
+
+pub end_within : (b : ℕ) (bs : List ℕ) (n : ℕ) → n ≡ unwrap_or (position (λ c. eqb c b) bs) (length bs) → n ≤ length bs
+end_within b bs n at = let e = at ∙ end_at b bs in let l = prefix_len_le (other b) bs in omega arith
 
 pub first_and_rest : (bs : List ℕ) (b : ℕ) → 0 < length bs → get_or bs 0 0 ≡ b → bs ≡ b ∷ take (length bs - 1) (drop 1 bs)
 first_and_rest [] b h e = absurd (omega arith)

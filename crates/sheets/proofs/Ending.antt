@@ -1,10 +1,10 @@
 -- A line ends at the first end of line.
-use Rattle.std.proofs.Common.{◌≡◌, ℕ, ◌-◌, ◌<◌, true, List, [], ◌∷◌, ◌++◌, map, length, take, drop, sym, refl, ap, ◌∙◌, arith}
+use Rattle.std.proofs.Common.{◌≡◌, ℕ, ◌-◌, ◌<◌, true, List, [], ◌∷◌, ◌++◌, map, length, take, drop, sym, refl, ap, ◌∙◌, subst, arith}
 use Rattle.std.specs.List.{AllByRecursion}
 use Rattle.grammar.specs.Letters.{digit, every}
 use Rattle.sheets.specs.Lines.{Spelled, Line, rule, alias, filler, spelling, tabbed, kind, fields, written, Means, weight_spelled, well, Well}
 use Rattle.sheets.specs.inner.Fields.{other, Opens, Cut}
-use Rattle.sheets.proofs.Cuts.{every_append, cut_once, first_and_rest}
+use Rattle.sheets.proofs.Cuts.{every_append, cut_once}
 use Rattle.sheets.proofs.Reading.{every_weaker, apart, digits_of, free_word, free_name, free_symbol}
 
 abbrev Unended : List ℕ → Type 0
@@ -43,9 +43,5 @@ line_end text line rest ℓ after cut e h =
 pub no_end : (text line rest : List ℕ) (ℓ : Line) (after : List ℕ) → Cut 10 text line rest → length rest < 1 → text ≡ written ℓ ++ (10 ∷ after) → Well ℓ → ⊥
 no_end text line rest ℓ after cut short e h = let p = ap length (line_end text line rest ℓ after cut e h).1 in omega arith
 
-opens_first : (b : ℕ) (bs : List ℕ) → Opens b bs → 0 < length bs → bs ≡ b ∷ take (length bs - 1) (drop 1 bs)
-opens_first b [] o h = absurd (omega arith)
-opens_first b (c ∷ bs) o h = first_and_rest (c ∷ bs) b h o
-
-pub line_and_rest : (text line rest : List ℕ) → Cut 10 text line rest → 0 < length rest → text ≡ line ++ (10 ∷ take (length rest - 1) (drop 1 rest))
-line_and_rest text line rest cut h = cut.0 ∙ ap (λ r. line ++ r) (opens_first 10 rest cut.2 h)
+pub line_and_rest : (text line rest : List ℕ) (b : ℕ) (after : List ℕ) → Cut 10 text line rest → rest ≡ b ∷ after → text ≡ line ++ (10 ∷ after)
+line_and_rest text line rest b after cut e = cut.0 ∙ ap (λ r. line ++ r) (e ∙ ap (λ x. x ∷ after) (subst (Opens 10) e cut.2))

@@ -100,7 +100,7 @@ cause_never text r n s (ruleless a ls p none e i) (b, (ms, q, says)) =
     let same = ordered_once text ms ls q p in
     let count = ap length (says.rules.spelled_out ∙ ap productions same ∙ none) in
     let mapped = length-map (rules_of s) (production (names_of ms) (words_of ms)) in
-    omega (arith, s.whole, s.counts.0)
+    omega (arith, s.draft.rules.whole, s.some)
 cause_never text r n s (treeless a ls ps p num low e) (b, (ms, q, says)) =
     let same = ordered_once text ms ls q p in
     let says' = subst (λ x. Says x s) same says in

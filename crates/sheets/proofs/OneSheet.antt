@@ -15,16 +15,16 @@ use Rattle.sheets.proofs.Stays.{all_aliased}
 
 module _ (ls : List Line) (s : Sheet) (says : Says ls s) where
   -- the sheet counts as many words as the lines have
-  word_total : s.word_count ≡ length (words_of ls)
+  word_total : s.draft.words.len ≡ length (words_of ls)
   word_total = sym (words_whole s) ∙ ap length says.words
 
   listed_aliases : AllByRecursion (λ a. (a.said < length (words_of ls)) × (a.meant < length (words_of ls))) (aliases_in s)
   listed_aliases =
       subst (λ n. AllByRecursion (λ a. (a.said < n) × (a.meant < n)) (aliases_in s)) word_total
-      (all_aliased s.word_count s.alias_count s.aliases s.aliased)
+      (all_aliased s.draft.words.len s.draft.aliases.len s.draft.aliases.items s.draft.aliased)
 
-  listed_fillers : s.fillers < 2 ^ length (words_of ls)
-  listed_fillers = subst (λ n. s.fillers < 2 ^ n) word_total s.filled
+  listed_fillers : s.draft.fillers < 2 ^ length (words_of ls)
+  listed_fillers = subst (λ n. s.draft.fillers < 2 ^ n) word_total s.draft.filled
 
 alike : (ls : List Line) (s t : Sheet) → Says ls s → Says ls t → Alike s t
 alike ls s t p q = record {
@@ -32,7 +32,7 @@ alike ls s t p q = record {
   words = p.words ∙ sym q.words;
   rules = numbered_once ls _ _ p.rules q.rules;
   aliases = aliases_once (words_of ls) (apart_words ls) _ _ (listed_aliases ls s p) (listed_aliases ls t q) (p.aliases ∙ sym q.aliases);
-  fillers = same_set (length (words_of ls)) s.fillers t.fillers (listed_fillers ls s p) (listed_fillers ls t q) (λ w h. p.fillers w h ∙ sym (q.fillers w h));
+  fillers = same_set (length (words_of ls)) s.draft.fillers t.draft.fillers (listed_fillers ls s p) (listed_fillers ls t q) (λ w h. p.fillers w h ∙ sym (q.fillers w h));
 }
 
 pub one_sheet : OneSheet

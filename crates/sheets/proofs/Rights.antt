@@ -43,19 +43,19 @@ counted_more n w n' w' (Name a) p q h = omega arith
 counted_more n w n' w' (Word v) p q h = omega arith
 
 -- the symbol entered is counted, and the counts have grown
-entered_counts : (d e : Draft) (f : List ℕ) (k : Symbol) → Entered d f k e → (d.name_count ≤ e.name_count) × (d.word_count ≤ e.word_count) × Counted e.name_count e.word_count k
-entered_counts d e f (Name a) h = (h.1.grown, (let q = h.1.word_count in omega arith), h.1.counted)
-entered_counts d e f (Word w) h = ((let q = h.1.name_count in omega arith), h.1.grown, h.1.counted)
+entered_counts : (d e : Draft) (f : List ℕ) (k : Symbol) → Entered d f k e → (d.names.len ≤ e.names.len) × (d.words.len ≤ e.words.len) × Counted e.names.len e.words.len k
+entered_counts d e f (Name a) h = (h.1.grown, (let same : e.words.len ≡ d.words.len = (let q = h.1.words in cc) in omega arith), h.1.counted)
+entered_counts d e f (Word w) h = ((let same : e.names.len ≡ d.names.len = (let q = h.1.names in cc) in omega arith), h.1.grown, h.1.counted)
 
-pub formed_more : (d e : Draft) (f : List ℕ) (p : Rule) (k : Symbol) → Entered d f k e → Formed d.name_count d.word_count p → p.len < length p.symbols → p.len < 8
-    → Formed e.name_count e.word_count (with_symbol p k)
+pub formed_more : (d e : Draft) (f : List ℕ) (p : Rule) (k : Symbol) → Entered d f k e → Formed d.names.len d.words.len p → p.len < length p.symbols → p.len < 8
+    → Formed e.names.len e.words.len (with_symbol p k)
 formed_more d e f p k entered formed room few =
     let counts = entered_counts d e f k entered in
-    let n = e.name_count in
-    let w = e.word_count in (
+    let n = e.names.len in
+    let w = e.words.len in (
       (let l = formed.0 in let g = counts.0 in omega arith),
       (omega arith),
-      each_more (Counted n w) p.symbols p.len k (Name 0) room (λ i l. counted_more d.name_count d.word_count n w _ counts.0 counts.1 (formed.2 i l)) counts.2,
+      each_more (Counted n w) p.symbols p.len k (Name 0) room (λ i l. counted_more d.names.len d.words.len n w _ counts.0 counts.1 (formed.2 i l)) counts.2,
     )
 
 -- a symbol that is entered is spelled by its number
@@ -93,7 +93,7 @@ module _ (before : List Line) (N W : List (List ℕ)) (ss : List Spelled) (bytes
   ended : (f r : List ℕ) → Field bytes f r → bytes ≡ [] → ⊥
   ended f r found e = let whole = found.0 in let z : ◌≡◌ {A = ℕ} 0 1 = cc in omega arith
 
-  spells_more : (N₁ W₁ : List (List ℕ)) (s : Spelled) (k : Symbol) → Holding before N₁ W₁ d → Formed d.name_count d.word_count p → p.len < length p.symbols
+  spells_more : (N₁ W₁ : List (List ℕ)) (s : Spelled) (k : Symbol) → Holding before N₁ W₁ d → Formed d.names.len d.words.len p → p.len < length p.symbols
       → spelled (with_all N₁ (names_among (s ∷ []))) (with_all W₁ (words_among (s ∷ []))) k ≡ s
       → map (spelled (with_all N₁ (names_among (s ∷ []))) (with_all W₁ (words_among (s ∷ [])))) (right (with_symbol p k)) ≡ map (spelled N₁ W₁) (right p) ++ (s ∷ [])
   spells_more N₁ W₁ s k h formed room is =
@@ -102,13 +102,13 @@ module _ (before : List Line) (N W : List (List ℕ)) (ss : List Spelled) (bytes
       let spell = spelled (with_all N₁ ns) (with_all W₁ ws) in
       let counted : AllByRecursion (Counted (length N₁) (length W₁)) (right p) =
       subst (λ n. AllByRecursion (Counted n (length W₁)) (right p)) (sym h.name_total)
-      (subst (λ n. AllByRecursion (Counted d.name_count n) (right p)) (sym h.word_total) (right_counted d.name_count d.word_count p formed.2)) in
+      (subst (λ n. AllByRecursion (Counted d.names.len n) (right p)) (sym h.word_total) (right_counted d.names.len d.words.len p formed.2)) in
       ap (map spell) (take_more_set p.symbols p.len k room)
       ∙ map_push spell (right p) k
       ∙ ap (λ ts. ts ++ (spell k ∷ [])) (symbols_stay N₁ W₁ ns ws (right p) counted)
       ∙ ap (λ t. map (spelled N₁ W₁) (right p) ++ (t ∷ [])) is
 
-  pub midway_more : (f r : List ℕ) (k : Symbol) (e : Draft) → Formed d.name_count d.word_count p → p.len < length p.symbols → Field bytes f r → Entered d f k e
+  pub midway_more : (f r : List ℕ) (k : Symbol) (e : Draft) → Formed d.names.len d.words.len p → p.len < length p.symbols → Field bytes f r → Entered d f k e
       → Midway before N W ss bytes d p → Midway before N W ss r e (with_symbol p k)
   midway_more f r k e formed room found enters (N₁, W₁, [], h) = absurd (ended f r found h.unread)
   midway_more f r k e formed room found enters (N₁, W₁, s ∷ rest, h) =
@@ -146,11 +146,10 @@ module _ (before : List Line) (N W : List (List ℕ)) (ss : List Spelled) (bytes
 
   barred_name : (N₁ W₁ : List (List ℕ)) (s : Spelled) (rest : List Spelled) → Holding before N₁ W₁ d → well s ≡ true → Barred d (spelling s) → Short (spelling s)
       → length (with_all N₁ (names_among (s ∷ rest))) ≤ 32 → length (with_all W₁ (words_among (s ∷ rest))) ≤ 64 → ⊥
-  barred_name N₁ W₁ s rest h ok (inl long) short names words = omega arith
-  barred_name N₁ W₁ (name t) rest h ok (inr (inl u)) short names words = no_name before N₁ W₁ d h t (names_among rest) u.1 names
-  barred_name N₁ W₁ (word t) rest h ok (inr (inl u)) short names words = name_no_word t u.0 ok
-  barred_name N₁ W₁ (name t) rest h ok (inr (inr u)) short names words = name_no_word t ok u.0
-  barred_name N₁ W₁ (word t) rest h ok (inr (inr u)) short names words = no_word before N₁ W₁ d h t (words_among rest) u.1 words
+  barred_name N₁ W₁ (name t) rest h ok (inl u) short names words = no_name before N₁ W₁ d h t (names_among rest) u.1 short names
+  barred_name N₁ W₁ (word t) rest h ok (inl u) short names words = name_no_word t u.0 ok
+  barred_name N₁ W₁ (name t) rest h ok (inr u) short names words = name_no_word t ok u.0
+  barred_name N₁ W₁ (word t) rest h ok (inr u) short names words = no_word before N₁ W₁ d h t (words_among rest) u.1 short words
 
   -- a symbol that no number is left for
   pub midway_barred : (f r : List ℕ) → Field bytes f r → Barred d f → Midway before N W ss bytes d p → Fitting N W ss → ⊥

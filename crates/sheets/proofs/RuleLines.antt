@@ -43,9 +43,9 @@ module _ (before : List Line) (a : List ℕ) (k : ℕ) (d e : Draft) (drafted : 
     rule_more g r weight left =
         let held = read.held in
         let new : production N' W' p ≡ record { weight = number w; left = a; right = ss } = (let q = left_at in let s = read.spells in cc) in
-        more before (rule w a ss) f g held r.names r.name_count r.words r.word_count r.rule_count (r.alias_count ∙ sym (add-zero f.alias_count))
-        (ap (map (production N' W')) r.rules ∙ map_push (production N' W') (take f.rule_count f.rules) p ∙ (let q = held.rules in cc))
-        ((let x = r.aliases in let y = r.alias_count in let q = held.aliases in cc) ∙ sym (append-nil (renamings before)))
+        more before (rule w a ss) f g held r.names r.words r.rule_count ((let x = r.aliases in cc) ∙ sym (add-zero f.aliases.len))
+        (ap (map (production N' W')) r.rules ∙ map_push (production N' W') (take f.rules.len f.rules.items) p ∙ (let q = held.rules in cc))
+        ((let x = r.aliases in let q = held.aliases in cc) ∙ sym (append-nil (renamings before)))
         (let x = r.places in let q = held.places in let n = read.counted in omega arith)
         (λ v l. ap (λ set. has set v) r.fillers ∙ held.fillers v l ∙ ap (member (get_or W' v [])) (sym (append-nil (fillers_of before))))
         (λ t q. absurd (clash q))

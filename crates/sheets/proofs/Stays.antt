@@ -8,7 +8,8 @@ use Rattle.grammar.specs.declared.Symbol.TheVariants.{Name, Word}
 use Rattle.grammar.specs.declared.Rule.{Rule}
 use Rattle.grammar.specs.declared.Alias.{Alias}
 use Rattle.grammar.specs.Grammar.{Counted, right, no_rule}
-use Rattle.grammar.specs.Limits.{Lefts, Rights, Aliased, no_alias}
+use Rattle.grammar.specs.Closure.{AllFormed}
+use Rattle.grammar.specs.Limits.{Aliased, no_alias}
 use Rattle.sheets.specs.Lines.{name, word}
 use Rattle.sheets.specs.Spellings.{with_all}
 use Rattle.sheets.specs.Texts.{spelled, production, renaming}
@@ -22,12 +23,8 @@ module _ (names words : ℕ) where
       let below : k < p.len = omega arith in
       subst (Counted names words) (sym (get_or-take p.len p.symbols k (Name 0) below)) (h k below))
 
-  all_counted : (n : ℕ) (rules : List Rule) → Lefts names n rules → Rights names words n rules → AllByRecursion (λ p. (p.left < names) × AllByRecursion (Counted names words) (right p)) (take n rules)
-  all_counted n rules lefts rights = All-from_get_or _ (take n rules) no_rule (λ r l.
-      let len = length-take n rules in
-      let below : r < n = omega arith in
-      subst (λ p. (p.left < names) × AllByRecursion (Counted names words) (right p)) (sym (get_or-take n rules r no_rule below))
-      (lefts r below, right_counted (get_or rules r no_rule) (λ k m. rights r k below m)))
+  all_counted : (rules : List Rule) → AllFormed names words rules → AllByRecursion (λ p. (p.left < names) × AllByRecursion (Counted names words) (right p)) rules
+  all_counted rules formed = All-from_get_or _ rules no_rule (λ r l. let f = formed r l in (f.0, right_counted (get_or rules r no_rule) f.2))
 
 pub all_aliased : (words n : ℕ) (aliases : List Alias) → Aliased words n aliases → AllByRecursion (λ a. (a.said < words) × (a.meant < words)) (take n aliases)
 all_aliased words n aliases h = All-from_get_or _ (take n aliases) no_alias (λ r l.
@@ -61,9 +58,8 @@ module _ (N W ns ws : List (List ℕ)) where
       let b = renamings_stay rest h.1 in
       cc
 
-  pub rules_stay : (n : ℕ) (rules : List Rule) → Lefts (length N) n rules → Rights (length N) (length W) n rules
-      → map (production (with_all N ns) (with_all W ws)) (take n rules) ≡ map (production N W) (take n rules)
-  rules_stay n rules lefts rights = productions_stay (take n rules) (all_counted (length N) (length W) n rules lefts rights)
+  pub rules_stay : (rules : List Rule) → AllFormed (length N) (length W) rules → map (production (with_all N ns) (with_all W ws)) rules ≡ map (production N W) rules
+  rules_stay rules formed = productions_stay rules (all_counted (length N) (length W) rules formed)
 
   pub aliases_stay : (n : ℕ) (aliases : List Alias) → Aliased (length W) n aliases → map (renaming (with_all W ws)) (take n aliases) ≡ map (renaming W) (take n aliases)
   aliases_stay n aliases h = renamings_stay (take n aliases) (all_aliased (length W) n aliases h)

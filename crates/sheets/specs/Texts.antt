@@ -50,7 +50,7 @@ pub record Says (ls : List Line) (s : Sheet) : Type 0 where
   pub words : words_in s ≡ words_of ls
   pub rules : Numbered ls (rules_of s)
   pub aliases : map (renaming (words_of ls)) (aliases_in s) ≡ renamings ls
-  pub fillers : (w : ℕ) → w < length (words_of ls) → has s.fillers w ≡ member (slice_index_or (words_of ls) w []) (fillers_of ls)
+  pub fillers : (w : ℕ) → w < length (words_of ls) → has s.draft.fillers w ≡ member (slice_index_or (words_of ls) w []) (fillers_of ls)
 
 -- what a text means: its lines, said by the sheet
 abbrev pub Loaded : List ℕ → Sheet → Type 0

@@ -6,44 +6,22 @@ ghost use Rattle.sheets.specs.inner.Fields.{Symbols};
 ghost use Rattle.sheets.specs.inner.Parses.{Tells};
 ghost use Rattle.sheets.specs.inner.Drafting.{Drafted, Outcome};
 
-use super::drafts::{is_said, name_number, with_number, word_number};
+use super::drafts::{is_said, name_number, word_number};
 use super::lines::Parsed;
 use super::refusals::Bar;
 use super::rules::read_rule;
 use super::weights;
+use grammar::Alias;
 use grammar::draft::Draft;
-use grammar::{Alias, Rule, Spelling};
-
-// A draft of no lines.
-pub(crate) fn empty() -> Draft
-    ensures { Drafted [] result }
-{
-    Draft {
-        rules: [Rule::EMPTY; 128],
-        rule_count: 0,
-        names: [Spelling::EMPTY; 32],
-        name_count: 0,
-        words: [Spelling::EMPTY; 64],
-        word_count: 0,
-        aliases: [Alias { said: 0, meant: 0 }; 16],
-        alias_count: 0,
-        starts: [0; 129],
-        fillers: 0,
-    }
-}
+use items::few::with;
 
 // A filler line more.
 fn add_filler(draft: &mut Draft, word: &[u8]) -> Result<(), Bar>
     requires { word_spelled word.now ≡ true }
     ensures { (before : List Line) → Drafted before draft.old → Outcome before (filler word.now) result draft.new }
 {
-    if word.len() > 15 {
-        return Err(Bar::Limit);
-    }
-    let Some(number) = word_number(draft, word) else {
-        return Err(Bar::Limit);
-    };
-    draft.fillers = with_number(draft.fillers, number);
+    let number = word_number(draft, word)?;
+    draft.fillers = with(draft.fillers, number);
     Ok(())
 }
 
@@ -52,23 +30,14 @@ fn add_alias(draft: &mut Draft, said: &[u8], meant: &[u8]) -> Result<(), Bar>
     requires { (word_spelled said.now ≡ true) × (word_spelled meant.now ≡ true) }
     ensures { (before : List Line) → Drafted before draft.old → Outcome before (alias said.now meant.now) result draft.new }
 {
-    if said.len() > 15 || meant.len() > 15 {
-        return Err(Bar::Limit);
-    }
-    let Some(from) = word_number(draft, said) else {
-        return Err(Bar::Limit);
-    };
-    let Some(to) = word_number(draft, meant) else {
-        return Err(Bar::Limit);
-    };
-    let again = is_said(&draft.aliases[0..draft.alias_count as usize], from);
+    let from = word_number(draft, said)?;
+    let to = word_number(draft, meant)?;
+    let again = is_said(draft.aliases.as_slice(), from);
     let alias = Alias {
         said: from,
         meant: to,
     };
-    if !draft.push_alias(alias) {
-        return Err(Bar::Limit);
-    }
+    draft.push_alias(alias)?;
     if again {
         return Err(Bar::Second);
     }
@@ -80,21 +49,10 @@ fn add_rule(draft: &mut Draft, weight: &[u8], left: &[u8], symbols: &[u8]) -> Re
     requires { (weight_spelled weight.now ≡ true) × (name_spelled left.now ≡ true) × Symbols symbols.now }
     ensures { (before : List Line) (ss : List Spelled) → Drafted before draft.old → symbols.now ≡ tabbed (map spelling ss) → Well (rule weight.now left.now ss) → Outcome before (rule weight.now left.now ss) result draft.new }
 {
-    if left.len() > 15 {
-        return Err(Bar::Limit);
-    }
-    let Some(number) = weights::weight(weight) else {
-        return Err(Bar::Limit);
-    };
-    let Some(name) = name_number(draft, left) else {
-        return Err(Bar::Limit);
-    };
-    let Some(rule) = read_rule(draft, number, name, symbols) else {
-        return Err(Bar::Limit);
-    };
-    if !draft.push_rule(rule) {
-        return Err(Bar::Limit);
-    }
+    let number = weights::weight(weight)?;
+    let name = name_number(draft, left)?;
+    let rule = read_rule(draft, number, name, symbols)?;
+    draft.push_rule(rule)?;
     Ok(())
 }
 

@@ -1,28 +1,20 @@
 // Bytes cut at tabs and at ends of lines.
-ghost use Rattle.std.specs.Prelude.{◌≡◌, ℕ, ◌+◌, ◌<◌, ◌≤◌, true, false, length, take, Some, None, slice_index};
-ghost use Rattle.grammar.specs.Letters.{every};
-ghost use Rattle.sheets.specs.inner.Fields.{other, Cut, Field, Fieldless};
+ghost use Rattle.std.specs.Prelude.{◌≡◌, ◌==◌, position, Some, None};
+ghost use Rattle.sheets.specs.inner.Fields.{Cut, Field, Fieldless};
 
-// The place of the first b, or the length.
-fn find(bytes: &[u8], b: u8) -> usize
-    ensures within { result ≤ length bytes.now }
-    ensures free { every (other b) (take result bytes.now) ≡ true }
-    ensures found { result < length bytes.now → slice_index bytes.now result ≡ b }
+// The place of the first b.
+fn find(bytes: &[u8], b: u8) -> Option<usize>
+    ensures { result ≡ position (λ c. c == b) bytes.now }
 {
-    for (i, c) in bytes.iter().enumerate() {
-        if *c == b {
-            return i;
-        }
-    }
-    bytes.len()
+    bytes.iter().position(|c| *c == b)
 }
 
 // The bytes before the first b, and the rest.
 pub(crate) fn cut(bytes: &[u8], b: u8) -> (&[u8], &[u8])
     ensures { Cut b bytes.now result.0.now result.1.now }
 {
-    let end = find(bytes, b);
-    (&bytes[0..end], &bytes[end..])
+    let end = find(bytes, b).unwrap_or(bytes.len());
+    bytes.split_at(end)
 }
 
 // The first field, where each stands after a tab, and the rest.

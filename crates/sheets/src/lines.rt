@@ -106,26 +106,17 @@ pub(crate) fn read_line(bytes: &[u8]) -> Option<Parsed<'_>>
     ensures { elim result [ Some p ↦ Tells p bytes.now | None ↦ ((ℓ : Line) → Means bytes.now ℓ → ⊥) ] }
 {
     let (first, fields) = cut(bytes, b'\t');
-    let Some(kind) = kind_of(first) else {
-        return None;
-    };
-    match kind {
+    match kind_of(first)? {
         Kind::Rule => {
-            let Some((weight, left, symbols)) = rule_fields(fields) else {
-                return None;
-            };
+            let (weight, left, symbols) = rule_fields(fields)?;
             Some(Parsed::Rule(weight, left, symbols))
         }
         Kind::Alias => {
-            let Some((said, meant)) = alias_fields(fields) else {
-                return None;
-            };
+            let (said, meant) = alias_fields(fields)?;
             Some(Parsed::Alias(said, meant))
         }
         Kind::Filler => {
-            let Some(word) = filler_fields(fields) else {
-                return None;
-            };
+            let word = filler_fields(fields)?;
             Some(Parsed::Filler(word))
         }
     }
@@ -137,11 +128,7 @@ pub(crate) fn next_line(text: &[u8]) -> Option<(Parsed<'_>, &[u8])>
     ensures unique { OneMeaning }
 {
     let (line, rest) = cut(text, b'\n');
-    let [_, after @ ..] = rest else {
-        return None;
-    };
-    let Some(parsed) = read_line(line) else {
-        return None;
-    };
+    let (_, after) = rest.split_first()?;
+    let parsed = read_line(line)?;
     Some((parsed, after))
 }

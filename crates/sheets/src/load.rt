@@ -6,7 +6,7 @@ ghost use Rattle.sheets.specs.Lines.{Line};
 ghost use Rattle.sheets.specs.Texts.{Ordered, Refused, Loaded};
 ghost use Rattle.sheets.specs.inner.Drafting.{Drafted};
 
-use super::adding::{add_line, empty};
+use super::adding::add_line;
 use super::lines::next_line;
 use faults::{Fault, Layer, Refusal};
 use grammar::draft::Draft;
@@ -26,22 +26,14 @@ fn read_lines(text: &[u8]) -> Result<Draft, Fault>
     requires { length text.now ≤ 16384 }
     ensures { elim result [ Ok d ↦ ((ls : List Line) × Ordered text.now ls × Drafted ls d) | Err f ↦ Refused text.now (told f) ] }
 {
-    let mut draft = empty();
+    let mut draft = Draft::new();
     let mut rest = text;
     let mut number = 0;
     while !rest.is_empty() {
         number += 1;
-        let Some((parsed, after)) = next_line(rest) else {
-            return Err(refused(Refusal::LineShape, number));
-        };
-        match add_line(&mut draft, parsed) {
-            Ok(()) => {
-                rest = after;
-            }
-            Err(bar) => {
-                return Err(refused(bar.refusal(), number));
-            }
-        }
+        let (parsed, after) = next_line(rest).ok_or(refused(Refusal::LineShape, number))?;
+        add_line(&mut draft, parsed).map_err(|bar| refused(bar.into(), number))?;
+        rest = after;
     }
     Ok(draft)
 }
@@ -54,11 +46,10 @@ pub fn load(text: &[u8], sheet: &mut Sheet) -> Result<(), Fault>
         return Err(refused(Refusal::SheetTooLong, 0));
     }
     let draft = read_lines(text)?;
-    if draft.rule_count == 0 {
+    if draft.rules.len == 0 {
         return Err(refused(Refusal::NoRule, 0));
     }
-    match sheet.replace(draft) {
-        Ok(()) => Ok(()),
-        Err(name) => Err(refused(Refusal::NoTree, name as usize)),
-    }
+    sheet
+        .replace(draft)
+        .map_err(|lowest| refused(Refusal::NoTree, lowest.name as usize))
 }

@@ -17,15 +17,15 @@ use Rattle.sheets.specs.Texts.{spelled, production, renaming}
 
 -- the draft holds what the lines say, with the names N and the words W
 pub record Holding (ls : List Line) (N W : List (List ℕ)) (d : Draft) : Type 0 where
-  pub names : texts d.name_count d.names ≡ N
-  pub name_total : length N ≡ d.name_count
-  pub word_total : length W ≡ d.word_count
-  pub words : texts d.word_count d.words ≡ W
-  pub rule_total : length (productions ls) ≡ d.rule_count
-  pub alias_total : length (renamings ls) ≡ d.alias_count
-  pub rules : map (production N W) (take d.rule_count d.rules) ≡ productions ls
-  pub aliases : map (renaming W) (take d.alias_count d.aliases) ≡ renamings ls
-  pub places : get_or d.starts d.rule_count 0 ≡ places_of ls
+  pub names : texts d.names.len d.names.items ≡ N
+  pub name_total : length N ≡ d.names.len
+  pub word_total : length W ≡ d.words.len
+  pub words : texts d.words.len d.words.items ≡ W
+  pub rule_total : length (productions ls) ≡ d.rules.len
+  pub alias_total : length (renamings ls) ≡ d.aliases.len
+  pub rules : map (production N W) (take d.rules.len d.rules.items) ≡ productions ls
+  pub aliases : map (renaming W) (take d.aliases.len d.aliases.items) ≡ renamings ls
+  pub places : get_or d.starts d.rules.len 0 ≡ places_of ls
   pub fillers : (w : ℕ) → w < length W → has d.fillers w ≡ member (slice_index_or W w []) (fillers_of ls)
   pub known : (t : List ℕ) → member t (fillers_of ls) ≡ true → member t W ≡ true
 

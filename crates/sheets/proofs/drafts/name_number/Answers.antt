@@ -1,27 +1,29 @@
-use Rattle.std.proofs.Common.{◌≤◌, sym, subst, arith, rules}
+use Rattle.std.proofs.Common.{◌≡◌, ℕ, ◌≤◌, List, length, take, Ok, Err, Result, refl, arith}
+use Rattle.grammar.specs.declared.draft.Draft.{Draft}
+use Rattle.grammar.specs.declared.shelf.Full.{Full}
 use Rattle.grammar.specs.Letters.{name_spelled}
-use Rattle.grammar.specs.Limits.{texts, Lettered, Brief, Apart}
-use Rattle.grammar.proofs.Fronts.{lefts_among_more, rights_among_more}
-use Rattle.sheets.proofs.Interning.{lettered_with, brief_with, apart_with}
+use Rattle.grammar.proofs.Fronts.{formed_among_more}
+use Rattle.sheets.specs.inner.Interns.{Enters, Named, Unnamed}
+use Rattle.sheets.proofs.Interning.{grown_entered, lettered_entered, apart_entered}
 use Rattle.sheets.proofs.drafts.name_number.Goals as goal
 
 pub invariant_of-draft : goal.invariant_of-draft
 invariant_of-draft c =
     let d = c.args.draft.now in
-    let same = sym c.in_default.ensures.same in
-    let lettered = subst (Lettered name_spelled d.name_count) same d.lettered_names in
-    let brief = subst (Brief d.name_count) same d.brief_names in
-    let apart = subst (λ xs. ∥ Apart (texts d.name_count xs) ∥₁) same d.apart_names in
-    record { counts = d.counts; lefts = d.lefts; short = d.short; rights = d.rights; lettered_names = lettered; lettered_words = d.lettered_words; brief_names = brief; brief_words = d.brief_words; apart_names = apart; apart_words = d.apart_words; aliased = d.aliased; placed = d.placed; filled = d.filled }
+    let new = c.intern.new.spellings in
+    let s = c.args.bytes.now in
+    let grown = grown_entered d.names new s c.intern.result c.intern.ensures in
+    let formed = formed_among_more d.names.len d.words.len new.len d.words.len grown (omega arith) (take d.rules.len d.rules.items) d.formed in
+    let lettered = lettered_entered d.names new s c.intern.result c.intern.ensures name_spelled d.lettered_names c.requires in
+    let apart = apart_entered d.names new s c.intern.result c.intern.ensures d.apart_names in
+    record { formed = formed; lettered_names = lettered; lettered_words = d.lettered_words; apart_names = apart; apart_words = d.apart_words; aliased = d.aliased; placed = d.placed; filled = d.filled }
 
-pub invariant_of-draft-2 : goal.invariant_of-draft-2
-invariant_of-draft-2 c =
-    let d = c.args.draft.now in
-    let i = c.in-Some.ensures in
-    let room : c.in-Some.count ≤ 32 = search rules in
-    let lefts = lefts_among_more d.name_count d.word_count c.in-Some.count d.word_count i.grown (omega arith) d.rule_count d.rules d.lefts in
-    let rights = rights_among_more d.name_count d.word_count c.in-Some.count d.word_count i.grown (omega arith) d.rule_count d.rules d.rights in
-    let lettered = lettered_with i name_spelled d.lettered_names c.requires.0 in
-    let brief = brief_with i d.brief_names in
-    let apart = apart_with i d.apart_names in
-    record { counts = (d.counts.0, room, d.counts.2, d.counts.3); lefts = lefts; short = d.short; rights = rights; lettered_names = lettered; lettered_words = d.lettered_words; brief_names = brief; brief_words = d.brief_words; apart_names = apart; apart_words = d.apart_words; aliased = d.aliased; placed = d.placed; filled = d.filled }
+-- the other fields stay
+named : (d e : Draft) (s : List ℕ) (r : Result ℕ Full) → Enters d.names s r e.names → e.rules ≡ d.rules → e.words ≡ d.words → e.aliases ≡ d.aliases → e.starts ≡ d.starts → e.fillers ≡ d.fillers
+    → elim r as (λ _. Type 0) [ Ok k ↦ Named d s k e × (length s ≤ 15) | Err f ↦ Unnamed d s ]
+named d e s (Ok k) h rules words aliases starts fillers =
+    (record { listed = h.listed; number = h.number; counted = h.counted; total = h.total; grown = h.grown; rules = rules; words = words; aliases = aliases; starts = starts; fillers = fillers }, h.short)
+named d e s (Err f) h rules words aliases starts fillers = h.0
+
+pub returns : goal.returns
+returns c = named c.args.draft.now _ c.args.bytes.now c.intern.result c.intern.ensures refl refl refl refl refl

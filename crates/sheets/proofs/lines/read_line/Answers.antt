@@ -12,5 +12,5 @@ no_kind bytes first rest cut none (rule w a ss) h = none key.Rule (line_parts by
 no_kind bytes first rest cut none (alias s m) h = none key.Alias (line_parts bytes first rest (alias s m) cut h).0
 no_kind bytes first rest cut none (filler w) h = none key.Filler (line_parts bytes first rest (filler w) cut h).0
 
-pub returns-in_default : goal.returns-in_default
-returns-in_default c = no_kind _ _ _ c.cut.ensures c.in_default.ensures
+pub returns-in_err-kind_of : goal.returns-in_err-kind_of
+returns-in_err-kind_of c = rw c.from_residual.ensures (no_kind _ _ _ c.cut.ensures c.in_err-kind_of.ensures)

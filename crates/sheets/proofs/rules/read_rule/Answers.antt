@@ -1,5 +1,6 @@
 use Rattle.std.proofs.Common.{◌<◌, length, refl, ap, ◌∙◌, arith, length-append}
 use Rattle.std.proofs.lemmas.List.{length-set}
+use Rattle.std.proofs.lemmas.Result.{err_from_is_err_and}
 use Rattle.sheets.specs.Spellings.{words_of}
 use Rattle.sheets.proofs.Reading.{symbols_cut}
 use Rattle.sheets.proofs.Rights.{formed_more, midway_start, midway_more, midway_barred, ninth, righted}
@@ -25,12 +26,12 @@ loop-field-preserved c =
     let d = c.loop-field.draft in
     let e = c.symbol_number.new.draft in
     let p = c.loop-field.rule in
-    let k = c.in-Some-symbol_number.symbol in
+    let k = c.in_ok-symbol.symbol in
     let bytes = c.loop-field.rest.now in
     let f = c.in-Some.field.now in
     let r = c.in-Some.after.now in
     let found = c.in-Some.ensures in
-    let enters = c.in-Some-symbol_number.ensures in
+    let enters = c.in_ok-symbol.ensures in
     let few : p.len < 8 = (let l = inv.0.1 in let n = c.if-rule-eq8.false in omega arith) in
     let room : p.len < length p.symbols = (let l = inv.1 in omega arith) in (
       formed_more d e f p k enters inv.0 room few,
@@ -55,13 +56,14 @@ returns-then-rule-eq8 c =
       read = λ before N ss h q all. ninth before N (words_of before) ss _ _ _ c.in-Some.field.now c.in-Some.after.now inv.1 c.if-rule-eq8.true c.in-Some.ensures (inv.5 before N ss h q all);
     }
 
-pub returns-in_default-symbol_number : goal.returns-in_default-symbol_number
-returns-in_default-symbol_number c =
+pub returns-in_err-symbol : goal.returns-in_err-symbol
+returns-in_err-symbol c =
     let inv = c.loop-field.invariant in
-    record {
+    let p = err_from_is_err_and c.from_residual.result c.from_residual.ensures.1 in
+    rw p.1 (record {
       formed = tt;
-      read = λ before N ss h q all. midway_barred before N (words_of before) ss _ _ _ c.in-Some.field.now c.in-Some.after.now c.in-Some.ensures c.in_default-symbol_number.ensures (inv.5 before N ss h q all);
-    }
+      read = λ before N ss h q all. midway_barred before N (words_of before) ss _ _ _ c.in-Some.field.now c.in-Some.after.now c.in-Some.ensures c.in_err-symbol.ensures (inv.5 before N ss h q all);
+    })
 
 pub returns : goal.returns
 returns c =

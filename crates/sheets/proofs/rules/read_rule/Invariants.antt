@@ -11,7 +11,7 @@ use Rattle.sheets.proofs.rules.read_rule.Given as goal
 -- the rule is formed so far, and has the symbols that are read
 abbrev pub invariant-loop-field : goal.invariant-loop-field
 invariant-loop-field l =
-    Formed l.draft.name_count l.draft.word_count l.rule × (length l.rule.symbols ≡ 8) × (l.rule.weight ≡ l.weight) × (l.rule.left ≡ l.left) × Symbols l.rest
+    Formed l.draft.names.len l.draft.words.len l.rule × (length l.rule.symbols ≡ 8) × (l.rule.weight ≡ l.weight) × (l.rule.left ≡ l.left) × Symbols l.rest
     × ((before : List Line) (N : List (List ℕ)) (ss : List Spelled) → Holding before N (words_of before) l.initial.draft → l.fields ≡ tabbed (map spelling ss) → AllByRecursion (λ s. well s ≡ true) ss
     → Midway before N (words_of before) ss l.rest l.draft l.rule)
 
