@@ -1,5 +1,6 @@
 pub mod Cuts
 pub mod Messaging
+pub mod Places
 pub mod Spacing
 pub mod Splits
 pub mod Walks

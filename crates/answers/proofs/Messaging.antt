@@ -1,27 +1,28 @@
 -- The messages taken one after the other are all of them, and there is one such list.
-use Rattle.std.proofs.Common.{◌≡◌, ℕ, ◌+◌, ◌<◌, ◌≤◌, List, [], ◌∷◌, ◌++◌, length, get_or, take, drop, sym, refl, ap, ◌∙◌, subst, ⊎_elim, append_assoc, append-nil, arith}
+use Rattle.std.proofs.Common.{◌≡◌, ℕ, ◌+◌, List, [], ◌∷◌, ◌++◌, length, get_or, take, drop, sym, refl, ap, ◌∙◌, subst, inl, inr, eqb, eqb-true, append_assoc, append-nil, arith}
+use Rattle.std.specs.List.{position_or_len}
 use Rattle.std.proofs.lemmas.List.{take_all, drop_all}
+use Rattle.std.proofs.lemmas.List.Sums.{passes_at_first}
 use Rattle.std.proofs.lemmas.Bool.{cases_lt}
 use Rattle.answers.specs.Input.{Unended, ended, Messages, all_ended, last_open, OneList}
+use Rattle.answers.proofs.Places.{unended_before}
 use Rattle.answers.proofs.Cuts.{more_not_nil, parted_at, lines_once}
 use Rattle.answers.specs.inner.Taking.{Taken, with_end, without_end}
 
--- the message is cut at its end
-taken_line : (rest message after : List ℕ) (i : ℕ) → i < length rest → Unended (take i rest) → get_or rest i 0 ≡ 10 → message ≡ take i rest → after ≡ drop (i + 1) rest → Taken rest message after
-taken_line rest message after i l u found e f =
-    with_end (subst Unended (sym e) u)
-    (parted_at rest i l found ∙ ap (λ bs. bs ++ (10 ∷ drop (i + 1) rest)) (sym e) ∙ ap (λ bs. message ++ (10 ∷ bs)) (sym f))
-
--- the message is all that is left
-taken_last : (rest message after : List ℕ) (i : ℕ) → length rest ≤ i → (length rest ≡ 0 → ⊥) → Unended (take i rest) → message ≡ take i rest → after ≡ drop (i + 1) rest → Taken rest message after
-taken_last rest message after i l some u e f =
-    let all : message ≡ rest = e ∙ take_all i rest l in
-    let full : message ≡ [] → ⊥ = λ none. some (ap length (sym all ∙ none)) in
-    without_end (subst Unended (sym e) u, full) (sym all) (f ∙ drop_all (i + 1) rest (omega arith))
-
-pub taken_at : (rest message after : List ℕ) (i : ℕ) → (length rest ≡ 0 → ⊥) → Unended (take i rest) → (i < length rest → get_or rest i 0 ≡ 10) → message ≡ take i rest → after ≡ drop (i + 1) rest → Taken rest message after
-taken_at rest message after i some u found e f =
-    ⊎_elim (λ (l : i < length rest). taken_line rest message after i l u (found l) e f) (λ (l : length rest ≤ i). taken_last rest message after i l some u e f) (cases_lt i (length rest))
+-- the message is cut at its end, or is all that is left
+pub taken_at : (rest message after : List ℕ) (i : ℕ) → (length rest ≡ 0 → ⊥) → i ≡ position_or_len (λ b. eqb b 10) rest → message ≡ take i rest → after ≡ drop (i + 1) rest → Taken rest message after
+taken_at rest message after i some at e f =
+    let first = position_or_len (λ b. eqb b 10) rest in
+    let u : Unended message = subst Unended (sym (e ∙ ap (λ k. take k rest) at)) (unended_before rest) in
+    elim (cases_lt first (length rest)) [
+      | inl l ↦
+          let found : get_or rest i 0 ≡ 10 = eqb-true (get_or rest i 0) 10 (ap (λ k. eqb (get_or rest k 0) 10) at ∙ passes_at_first (λ b. eqb b 10) rest 0 l) in
+          with_end u (parted_at rest i (omega arith) found ∙ ap (λ bs. bs ++ (10 ∷ drop (i + 1) rest)) (sym e) ∙ ap (λ bs. message ++ (10 ∷ bs)) (sym f))
+      | inr l ↦
+          let all : message ≡ rest = e ∙ take_all i rest (omega arith) in
+          let full : message ≡ [] → ⊥ = λ none. some (ap length (sym all ∙ none)) in
+          without_end (u, full) (sym all) (f ∙ drop_all (i + 1) rest (omega arith))
+    ]
 
 pub messages_none : Messages [] []
 messages_none = all_ended tt refl

@@ -1,9 +1,13 @@
 -- The lines of a front of the input, up to the first empty line.
-use Rattle.std.proofs.Common.{◌≡◌, ℕ, ◌+◌, ◌<◌, ◌≤◌, Bool, true, false, eqb, ◌⊎◌, List, [], ◌∷◌, ◌++◌, length, get_or, take, drop, sym, refl, ap, ◌∙◌, subst, inl, inr, append_assoc, append-nil, arith, eq-eqb, ne_eqb}
-use Rattle.std.specs.List.{AllByRecursion}
-use Rattle.std.proofs.lemmas.List.{take_more, take_all, drop_all}
+use Rattle.std.proofs.Common.{◌&&◌, one-add, add-one, eqb-true, ◌≡◌, ℕ, ◌+◌, Bool, true, false, eqb, ◌⊎◌, List, [], ◌∷◌, ◌++◌, length, take, drop, sym, refl, ap, ◌∙◌, subst, inl, inr, append_assoc, append-nil, arith, eq-eqb, ne_eqb}
+use Rattle.std.specs.List.{AllByRecursion, zip, position, position_or_len}
+use Rattle.std.specs.Option.{unwrap_or}
+use Rattle.std.proofs.lemmas.Slice.Zip.{length-zip}
+use Rattle.answers.proofs.Places.{place_or_len}
+use Rattle.std.proofs.lemmas.Bool.{cases_Bool}
+use borrow.Author.Tests.{eqb-false}
 use Rattle.std.proofs.ByRecursion.{All-push}
-use Rattle.answers.proofs.Cuts.{more_not_nil, parted_at}
+use Rattle.answers.proofs.Cuts.{more_not_nil}
 use Rattle.answers.specs.Input.{Unended, FullLine, ended, Split, at_empty_line, without}
 
 -- the front is full lines with their ends, and then the start of a line
@@ -50,23 +54,46 @@ walked_more front fresh b w (inl h) =
     subst (Walked (front ++ (b ∷ []))) (sym (eq-eqb b 10 h.0)) (walked_end front b (subst (Walked front) h.1 w) h.0)
 walked_more front fresh b w (inr n) = subst (Walked (front ++ (b ∷ []))) (sym (ne_eqb b 10 n)) (walked_byte front fresh b w n)
 
-pub walked_turn : (input : List ℕ) (i : ℕ) (fresh : Bool) → i < length input → Walked (take i input) fresh → ((get_or input i 0 ≡ 10) × (fresh ≡ false)) ⊎ (get_or input i 0 ≡ 10 → ⊥) → Walked (take (i + 1) input) (eqb (get_or input i 0) 10)
-walked_turn input i fresh l w way =
-    subst (λ bs. Walked bs (eqb (get_or input i 0) 10)) (sym (take_more input i 0 l)) (walked_more (take i input) fresh (get_or input i 0) w way)
+-- both bytes of a pair are ends of lines
+abbrev pub both_end : ℕ × ℕ → Bool
+both_end p = eqb p.0 10 && eqb p.1 10
 
--- where an end stands at the start of a line, the sheet is done
-pub split_at : (input : List ℕ) (i : ℕ) (fresh : Bool) → i < length input → Walked (take i input) fresh → fresh ≡ true → get_or input i 0 ≡ 10 → Split input (take i input) (drop (i + 1) input)
-split_at input i fresh l w f e =
-    at_empty_line w.full w.all_full
-    (w.is ∙ ap (λ bs. ended w.full ++ bs) (w.at_start f) ∙ append-nil (ended w.full))
-    (parted_at input i l e)
+both_true : (b c : ℕ) → both_end (b, c) ≡ true → (eqb b 10 ≡ true) × (c ≡ 10)
+both_true b c e = (grind arith, grind arith)
 
--- past the last byte there was no empty line
-pub split_not : (input : List ℕ) (i : ℕ) (fresh : Bool) → length input ≤ i → Walked (take i input) fresh → Split input (take (length input) input) (drop (length input + 1) input)
-split_not input i fresh m w =
-    without w.full w.last w.all_full w.unended (sym (take_all i input m) ∙ w.is) (take_all (length input) input (omega arith)) (drop_all (length input + 1) input (omega arith))
+both_false : (b c : ℕ) → both_end (b, c) ≡ false → ((c ≡ 10) × (eqb b 10 ≡ false)) ⊎ (c ≡ 10 → ⊥)
+both_false b c e = elim (cases_Bool (eqb b 10)) [
+  | inl t ↦ inr (λ k. grind arith)
+  | inr f ↦ elim (cases_Bool (eqb c 10)) [ inl t ↦ inl (eqb-true c 10 t, f) | inr g ↦ inr (eqb-false c 10 g) ]
+]
+
+-- the place of the first empty line in bs, where b is the byte before it
+abbrev pub empty_place : ℕ → List ℕ → ℕ
+empty_place b bs = position_or_len both_end (zip (b ∷ bs) bs)
 
 -- the same split, of parts that are equal
 pub split_same : (input sheet rest sheet' rest' : List ℕ) → sheet' ≡ sheet → rest' ≡ rest → Split input sheet rest → Split input sheet' rest'
 split_same input sheet rest sheet' rest' e f s =
     subst (λ bs. Split input bs rest') (sym e) (subst (λ bs. Split input sheet bs) (sym f) s)
+
+-- where an end stands at the start of a line the sheet is done, and past the last byte there was no empty line
+walk : (front : List ℕ) (b : ℕ) (bs : List ℕ) → Walked front (eqb b 10) → Split (front ++ bs) (front ++ take (empty_place b bs) bs) (drop (empty_place b bs + 1) bs)
+walk front b [] w = without w.full w.last w.all_full w.unended (append-nil front ∙ w.is) refl refl
+walk front b (c ∷ bs) w = elim (cases_Bool (both_end (b, c))) [
+  | inl e ↦
+      let ends = both_true b c e in
+      rw (e, append-nil) (at_empty_line w.full w.all_full (w.is ∙ ap (λ l. ended w.full ++ l) (w.at_start ends.0) ∙ append-nil (ended w.full)) (ap (λ d. front ++ (d ∷ bs)) ends.1))
+  | inr e ↦
+      let k = empty_place c bs in
+      let on : Split ((front ++ (c ∷ [])) ++ bs) ((front ++ (c ∷ [])) ++ take k bs) (drop (k + 1) bs) = walk (front ++ (c ∷ [])) c bs (walked_more front (eqb b 10) c w (both_false b c e)) in
+      rw (e, one-add, add-one) (rw add-one at (simp append_assoc at on))
+]
+
+-- the place that the search over pairs of neighbours finds
+pub split_first : (input : List ℕ) (i : ℕ) → i ≡ unwrap_or (position both_end (zip (10 ∷ input) input)) (length input) → Split input (take i input) (drop (i + 1) input)
+split_first input i at =
+    let pairs = zip (10 ∷ input) input in
+    let long : length pairs ≡ length input = simp length-zip (omega arith) in
+    let there : i ≡ empty_place 10 input = at ∙ ap (unwrap_or (position both_end pairs)) (sym long) ∙ place_or_len both_end pairs in
+    let start : Walked [] true = record { full = []; last = []; all_full = tt; unended = tt; is = refl; at_start = λ _. refl; inside = λ f. absurd (grind arith) } in
+    subst (λ k. Split input (take k input) (drop (k + 1) input)) (sym there) (walk [] 10 input start)

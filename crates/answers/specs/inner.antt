@@ -1,3 +1,2 @@
 -- Definitions of the steps that the contracts cite.
 pub mod Taking
-pub mod Gaps

@@ -1,42 +1,30 @@
 // One input cut into its sheet and its messages.
-ghost use Rattle.std.specs.Prelude.{◌≡◌, ◌+◌, ◌<◌, ◌≤◌, [], length, take, drop, Some, None, slice_index};
+ghost use Rattle.std.specs.Prelude.{◌≡◌, ◌+◌, ◌<◌, ◌≤◌, [], ◌==◌, length, take, drop, Some, None};
+ghost use Rattle.std.specs.List.{position_or_len};
 ghost use Rattle.answers.specs.Input.{Split, Unended};
 ghost use Rattle.answers.specs.inner.Taking.{Taken};
 
-// The place of the end of the first empty line, or the length.
+use std::iter;
+
+// The place of the end of the first empty line, or the length: an end of a line after another one, or before all else.
 fn find_empty_line(input: &[u8]) -> usize
     ensures within { result ≤ length input.now }
     ensures split { Split input.now (take result input.now) (drop (result + 1) input.now) }
 {
-    let mut fresh = true;
-    for (i, b) in input.iter().enumerate() {
-        let ends = *b == b'\n';
-        if ends && fresh {
-            return i;
-        }
-        fresh = ends;
-    }
-    input.len()
+    let before = iter::once(b'\n').chain(input.iter().copied());
+    let mut pairs = before.zip(input.iter().copied());
+    let place = pairs.position(|pair| pair == (b'\n', b'\n'));
+    place.unwrap_or(input.len())
 }
 
-// The bytes before a place.
-fn up_to(bytes: &[u8], end: usize) -> &[u8]
+// The bytes before a place, and those after it, none where nothing stands there.
+fn cut(bytes: &[u8], end: usize) -> (&[u8], &[u8])
     requires { end ≤ length bytes.now }
-    ensures { result.now ≡ take end bytes.now }
+    ensures before { result.0.now ≡ take end bytes.now }
+    ensures after { result.1.now ≡ drop (end + 1) bytes.now }
 {
-    &bytes[0..end]
-}
-
-// The bytes after a place, none where nothing stands there.
-fn past(bytes: &[u8], end: usize) -> &[u8]
-    requires { end ≤ length bytes.now }
-    ensures { result.now ≡ drop (end + 1) bytes.now }
-{
-    if end < bytes.len() {
-        &bytes[end + 1..]
-    } else {
-        &bytes[end..]
-    }
+    let after = bytes.get(end + 1..).unwrap_or(&[]);
+    (&bytes[..end], after)
 }
 
 // The sheet, and the messages that follow its empty line.
@@ -44,21 +32,15 @@ pub fn split_input(input: &[u8]) -> (&[u8], &[u8])
     ensures { Split input.now result.0.now result.1.now }
 {
     let end = find_empty_line(input);
-    (up_to(input, end), past(input, end))
+    cut(input, end)
 }
 
 // The place of the first end of a line, or the length.
 fn find_end(bytes: &[u8]) -> usize
-    ensures within { result ≤ length bytes.now }
-    ensures free { Unended (take result bytes.now) }
-    ensures found { result < length bytes.now → slice_index bytes.now result ≡ 10 }
+    ensures { result ≡ position_or_len (λ b. b == 10) bytes.now }
 {
-    for (i, b) in bytes.iter().enumerate() {
-        if *b == b'\n' {
-            return i;
-        }
-    }
-    bytes.len()
+    let place = bytes.iter().position(|b| *b == b'\n');
+    place.unwrap_or(bytes.len())
 }
 
 // The next message, and what follows it.
@@ -69,5 +51,5 @@ pub fn next_message(rest: &[u8]) -> Option<(&[u8], &[u8])>
         return None;
     }
     let end = find_end(rest);
-    Some((up_to(rest, end), past(rest, end)))
+    Some(cut(rest, end))
 }
