@@ -2,13 +2,11 @@
 #![tactic(auto)]
 
 mod columns;
-mod faulted;
 mod messages;
 mod overview;
 mod runs;
 
 use answers::input::split_input;
-use faulted::show_fault;
 use grammar::sheet::Sheet;
 use messages::show_messages;
 use overview::show_sheet;
@@ -28,13 +26,11 @@ fn main(rt: HostRuntime) -> io::Result<()> {
     }
     let mut sheet = Sheet::blank();
     println!(rt; "a sheet of {} bytes", text.len())?;
-    match load(text, &mut sheet) {
-        Ok(()) => {
-            show_sheet(&rt, &sheet)?;
-            let mut hall = vec![in rt.alloc(); 0u64; 3780]?;
-            let _ = open(&sheet, &mut hall);
-            show_messages(&rt, &sheet, &mut hall, messages)
-        }
-        Err(fault) => show_fault(&rt, fault),
+    if let Err(fault) = load(text, &mut sheet) {
+        return println!(rt; "{fault}");
     }
+    show_sheet(&rt, &sheet)?;
+    let mut hall = vec![in rt.alloc(); 0u64; 3780]?;
+    let _ = open(&sheet, &mut hall);
+    show_messages(&rt, &sheet, &mut hall, messages)
 }

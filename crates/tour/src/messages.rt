@@ -1,60 +1,46 @@
 // What is printed of messages: their runs, their words after each layer, their table at a seat, and their reading.
 use super::columns::show_filling;
-use super::faulted::show_fault;
-use super::overview::show_numbered;
-use super::runs::{gather, show_run};
+use super::overview::{show_bytes, show_numbered};
+use super::runs::{codes_of, show_run};
 use answers::input::next_message;
 use grammar::sheet::Sheet;
 use sources::alias::Alias;
+use sources::filler::Filler;
 use sources::pile::pile;
 use sources::source::Source;
 use sources::text::Text;
 use std::io;
 
-fn show_bytes(rt: &impl Print, bytes: &[u8]) -> io::Result<()> {
-    for b in bytes {
-        print!(rt; "{}", *b as char)?;
-    }
-    Ok(())
-}
-
-// A run begins at a byte other than a space, after a space or at the start.
+// A run is what stands between spaces; those between two spaces, or at an end, are empty.
 fn show_runs(rt: &impl Print, message: &[u8]) -> io::Result<()> {
-    let mut after_space = true;
-    for (i, b) in message.iter().enumerate() {
-        if *b != b' ' {
-            if after_space {
-                print!(rt; "\n  run at {i}: ")?;
-            }
-            print!(rt; "{}", *b as char)?;
+    let mut place = 0usize;
+    for run in message.split(|b| *b == b' ') {
+        if !run.is_empty() {
+            print!(rt; "\n  run at {place}: ")?;
+            show_bytes(rt, run)?;
         }
-        after_space = *b == b' ';
+        place = place.saturating_add(run.len()).saturating_add(1);
     }
     println!(rt; "")
 }
 
-// A message has fewer words than bytes, so the ending comes within its longest length.
 fn show_source<S: Source + Drop>(rt: &impl Print, sheet: &Sheet, mut source: S) -> io::Result<()> {
-    for _ in 0..513 {
+    loop {
         match source.next() {
             Ok(Some(heard)) => {
                 print!(rt; " {}:", heard.place)?;
                 show_numbered(rt, sheet.words(), heard.word)?;
             }
             Ok(None) => return println!(rt; " end"),
-            Err(fault) => {
-                print!(rt; " ")?;
-                return show_fault(rt, fault);
-            }
+            Err(fault) => return println!(rt; " {fault}"),
         }
     }
-    Ok(())
 }
 
 fn show_layers<'a>(rt: &impl Print, sheet: &'a Sheet, message: &'a [u8]) -> io::Result<()> {
     let text = match Text::over(sheet, message) {
         Ok(text) => text,
-        Err(fault) => return show_fault(rt, fault),
+        Err(fault) => return println!(rt; "{fault}"),
     };
     print!(rt; "  words:")?;
     show_source(rt, sheet, text)?;
@@ -63,40 +49,29 @@ fn show_layers<'a>(rt: &impl Print, sheet: &'a Sheet, message: &'a [u8]) -> io::
     print!(rt; "  heard:")?;
     match pile(sheet, message) {
         Ok(pile) => show_source(rt, sheet, pile),
-        Err(fault) => show_fault(rt, fault),
+        Err(fault) => println!(rt; "{fault}"),
     }
 }
 
+// A message that is too long has been refused above.
 fn show_seat<'a>(
-    rt: &impl Print,
+    rt: &(impl Print + AllocGlobal),
     sheet: &'a Sheet,
     hall: &mut [u64],
     message: &'a [u8],
 ) -> io::Result<()> {
-    match pile(sheet, message) {
-        Ok(pile) => show_filling(rt, sheet, hall, pile),
-        Err(_) => Ok(()),
+    if let Ok(pile) = pile(sheet, message) {
+        show_filling(rt, sheet, hall, pile)?;
     }
-}
-
-fn show_reading<'a>(
-    rt: &impl Print,
-    sheet: &'a Sheet,
-    hall: &mut [u64],
-    message: &'a [u8],
-) -> io::Result<()> {
-    match pile(sheet, message) {
-        Ok(pile) => {
-            let mut codes = [0u8; 21];
-            let count = gather(pile, &mut codes);
-            show_run(rt, sheet, hall, codes.get(0..count).unwrap_or(&[]))
-        }
-        Err(_) => Ok(()),
+    if let Ok(pile) = pile(sheet, message) {
+        let codes = codes_of(rt.alloc(), pile)?;
+        show_run(rt, sheet, hall, codes.as_slice())?;
     }
+    Ok(())
 }
 
 fn show_message(
-    rt: &impl Print,
+    rt: &(impl Print + AllocGlobal),
     sheet: &Sheet,
     hall: &mut [u64],
     message: &[u8],
@@ -106,22 +81,17 @@ fn show_message(
     print!(rt; "\"")?;
     show_runs(rt, message)?;
     show_layers(rt, sheet, message)?;
-    show_seat(rt, sheet, hall, message)?;
-    show_reading(rt, sheet, hall, message)
+    show_seat(rt, sheet, hall, message)
 }
 
-// There are no more messages than bytes.
 pub(crate) fn show_messages(
-    rt: &impl Print,
+    rt: &(impl Print + AllocGlobal),
     sheet: &Sheet,
     hall: &mut [u64],
     messages: &[u8],
 ) -> io::Result<()> {
     let mut rest = messages;
-    for _ in 0..messages.len() {
-        let Some((message, after)) = next_message(rest) else {
-            return Ok(());
-        };
+    while let Some((message, after)) = next_message(rest) {
         show_message(rt, sheet, hall, message)?;
         rest = after;
     }

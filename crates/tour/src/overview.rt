@@ -3,11 +3,19 @@ use grammar::sheet::Sheet;
 use grammar::{Rule, Spelling, Symbol};
 use std::io;
 
-fn show_spelling(rt: &impl Print, spelling: &Spelling) -> io::Result<()> {
-    for c in spelling.bytes.iter().take(spelling.len as usize) {
-        print!(rt; "{}", *c as char)?;
+// Each byte as the character of its number.
+pub(crate) fn show_bytes(rt: &impl Print, bytes: &[u8]) -> io::Result<()> {
+    for b in bytes {
+        print!(rt; "{}", char::from(*b))?;
     }
     Ok(())
+}
+
+fn show_spelling(rt: &impl Print, spelling: &Spelling) -> io::Result<()> {
+    show_bytes(
+        rt,
+        spelling.bytes.get(..spelling.len as usize).unwrap_or(&[]),
+    )
 }
 
 // A name or a word by its number; the sheet lists every number that it holds.
@@ -48,10 +56,10 @@ pub(crate) fn show_dotted(
 }
 
 fn show_names(rt: &impl Print, sheet: &Sheet) -> io::Result<()> {
-    for (a, name) in sheet.names().iter().enumerate().take(32) {
+    for (a, name) in (0..32u8).zip(sheet.names()) {
         print!(rt; "name {a}: ")?;
         show_spelling(rt, name)?;
-        if sheet.is_nullable(a as u8) {
+        if sheet.is_nullable(a) {
             print!(rt; ", which can stand for no words")?;
         }
         println!(rt; "")?;
@@ -94,10 +102,10 @@ fn show_rule(rt: &impl Print, sheet: &Sheet, rule: &Rule, first: u16) -> io::Res
 }
 
 fn show_rules(rt: &impl Print, sheet: &Sheet) -> io::Result<()> {
-    let starts = sheet.first_places();
-    for (r, rule) in sheet.rules().iter().enumerate().take(128) {
-        println!(rt; "rule {}, weight {}", r + 1, rule.weight)?;
-        show_rule(rt, sheet, rule, starts.get(r).copied().unwrap_or(0))?;
+    let placed = sheet.rules().iter().zip(sheet.first_places());
+    for (number, (rule, first)) in (1..129u8).zip(placed) {
+        println!(rt; "rule {number}, weight {}", rule.weight)?;
+        show_rule(rt, sheet, rule, *first)?;
     }
     Ok(())
 }

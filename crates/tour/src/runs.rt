@@ -1,13 +1,13 @@
 // What is printed of a whole run: each answer, and the reading of the words standing on each scale.
-use super::faulted::show_fault;
 use faults::Fault;
 use grammar::sheet::Sheet;
 use reader::performing::{Call, Turn, perform};
 use reader::read::read;
 use readings::read::Reading;
-use readings::scale::{One, Plain, Points, Worst};
+use readings::scale::{Plain, Points, Scale, Worst};
 use sources::codes::Codes;
 use sources::source::Source;
+use std::alloc::{AllocError, Global};
 use std::io;
 
 fn show_form(rt: &impl Print, list: &[u8], length: usize) -> io::Result<()> {
@@ -27,33 +27,25 @@ fn show_points(
             print!(rt; "  cheapest by points, {}:", reading.price)?;
             show_form(rt, list, reading.length)
         }
-        Err(fault) => {
-            print!(rt; "  ")?;
-            show_fault(rt, fault)
-        }
+        Err(fault) => println!(rt; "  {fault}"),
     }
 }
 
-fn show_worst(rt: &impl Print, sheet: &Sheet, hall: &[u64]) -> io::Result<()> {
+// Reads the first seat on a scale. What is refused here has been refused on points before.
+fn show_reading<C: Scale, F: FnOnce(C::Price) -> io::Result<()>>(
+    rt: &impl Print,
+    sheet: &Sheet,
+    hall: &[u64],
+    prices: &mut [C::Price],
+    show_price: F,
+) -> io::Result<()>
+    requires { F.IsAlwaysCallable show_price }
+{
     let mut list = [0u8; 10240];
-    let mut prices = [0u16; 8192];
     let mut numbers = [0u32; 8192];
-    match read::<Worst>(sheet, hall, 0, &mut list, &mut prices, &mut numbers) {
+    match read::<C>(sheet, hall, 0, &mut list, prices, &mut numbers) {
         Ok(reading) => {
-            print!(rt; "  cheapest by worst, {}:", reading.price)?;
-            show_form(rt, &list, reading.length)
-        }
-        Err(_) => Ok(()),
-    }
-}
-
-fn show_plain(rt: &impl Print, sheet: &Sheet, hall: &[u64]) -> io::Result<()> {
-    let mut list = [0u8; 10240];
-    let mut prices = [One; 8192];
-    let mut numbers = [0u32; 8192];
-    match read::<Plain>(sheet, hall, 0, &mut list, &mut prices, &mut numbers) {
-        Ok(reading) => {
-            print!(rt; "  any reading:")?;
+            show_price(reading.price)?;
             show_form(rt, &list, reading.length)
         }
         Err(_) => Ok(()),
@@ -74,25 +66,22 @@ fn show_turns<T>(rt: &impl Print, turns: &[Turn<T>]) -> io::Result<()> {
         show_call(rt, &turn.call)?;
         match &turn.answer {
             Ok(count) => println!(rt; "{count} standing")?,
-            Err(fault) => show_fault(rt, *fault)?,
+            Err(fault) => println!(rt; "{fault}")?,
         }
     }
     Ok(())
 }
 
-// The numbers of the source's words, as many as there is room for.
-pub(crate) fn gather<T: Source + Drop>(mut source: T, codes: &mut [u8]) -> usize {
-    let mut count = 0usize;
-    for code in codes.iter_mut() {
-        match source.next() {
-            Ok(Some(heard)) => {
-                *code = heard.word;
-                count = count.saturating_add(1);
-            }
-            _ => return count,
-        }
+// The numbers of the source's words.
+pub(crate) fn codes_of<S: Source + Drop>(
+    heap: Global,
+    mut source: S,
+) -> Result<Vec<u8>, AllocError> {
+    let mut codes = Vec::new(heap);
+    while let Ok(Some(heard)) = source.next() {
+        codes.push(heard.word)?;
     }
-    count
+    Ok(codes)
 }
 
 // Performs a run of clear and hear on the hall, and shows what it answers and reads.
@@ -129,6 +118,18 @@ pub(crate) fn show_run<'a>(
     );
     show_turns(rt, &turns)?;
     show_points(rt, &list, answer)?;
-    show_worst(rt, sheet, hall)?;
-    show_plain(rt, sheet, hall)
+    show_reading::<Worst, _>(
+        rt,
+        sheet,
+        hall,
+        &mut [Worst::unit(); 8192],
+        |price| print!(rt; "  cheapest by worst, {price}:"),
+    )?;
+    show_reading::<Plain, _>(
+        rt,
+        sheet,
+        hall,
+        &mut [Plain::unit(); 8192],
+        |_| print!(rt; "  any reading:"),
+    )
 }

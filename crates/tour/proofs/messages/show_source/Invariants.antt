@@ -1,0 +1,5 @@
+use Rattle.std.proofs.Common.{length}
+use Rattle.tour.proofs.messages.show_source.Given as goal
+
+abbrev pub decreases-loop-heard : goal.decreases-loop-heard
+decreases-loop-heard g l = length (g.S.Source.meaning l.source).words
