@@ -2,15 +2,11 @@
 ghost use Rattle.answers.specs.Input.{OneSplit, OneList};
 
 // An input has one sheet and one rest.
-pub fn an_input_is_split_in_one_way() -> u8
+pub fn an_input_is_split_in_one_way()
     ensures { OneSplit }
-{
-    0
-}
+{}
 
 // A rest has one list of messages.
-pub fn a_rest_has_one_list_of_messages() -> u8
+pub fn a_rest_has_one_list_of_messages()
     ensures { OneList }
-{
-    0
-}
+{}

@@ -2,15 +2,11 @@
 ghost use Rattle.sheets.specs.Texts.{OneSheet, OneAnswer};
 
 // A text means one sheet at most.
-pub fn a_text_means_one_sheet() -> u8
+pub fn a_text_means_one_sheet()
     ensures { OneSheet }
-{
-    0
-}
+{}
 
 // The refusal given is the first: there is no other, and none where the text means a sheet.
-pub fn the_refusal_given_is_the_first() -> u8
+pub fn the_refusal_given_is_the_first()
     ensures { OneAnswer }
-{
-    0
-}
+{}
