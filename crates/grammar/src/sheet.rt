@@ -9,7 +9,6 @@ mod read;
 
 use super::draft::Draft;
 use super::masks::Masks;
-
 pub use make::NoTree;
 
 // A draft that has a rule and whose names have trees, with what the table code asks of it.

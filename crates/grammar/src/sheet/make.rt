@@ -32,8 +32,14 @@ impl Sheet {
         let masks = Masks::of(&rules[0..1], 1);
         Sheet {
             draft: Draft {
-                rules: Shelf { items: rules, len: 1 },
-                names: Shelf { items: names, len: 1 },
+                rules: Shelf {
+                    items: rules,
+                    len: 1,
+                },
+                names: Shelf {
+                    items: names,
+                    len: 1,
+                },
                 words: Shelf::new(Spelling::EMPTY),
                 aliases: Shelf::new(Alias { said: 0, meant: 0 }),
                 starts,

@@ -62,7 +62,7 @@ impl Sheet {
         self.draft.aliases.as_slice()
     }
 
-    // The aliases as a table, and how many of it are used.
+    // The aliases as a table, and how many of it are used: a copy, since a layer of words keeps its own, and a shelf is not copied.
     pub fn alias_table(&self) -> ([Alias; 16], u8)
         ensures used { take result.1 result.0 ≡ aliases_in self.now }
         ensures few { result.1 ≤ 16 }
