@@ -32,18 +32,21 @@ pub fn is_in_word(c: u8) -> bool
     is_in_name(c) || c == b'-'
 }
 
+// Whether each character is a digit.
 pub fn are_digits(bytes: &[u8]) -> bool
     ensures { result ≡ every digit bytes.now }
 {
     bytes.iter().all(|c| is_digit(*c))
 }
 
+// Whether each may stand in a name.
 pub fn are_in_name(bytes: &[u8]) -> bool
     ensures { result ≡ every in_name bytes.now }
 {
     bytes.iter().all(|c| is_in_name(*c))
 }
 
+// Whether each may stand in a word.
 pub fn are_in_word(bytes: &[u8]) -> bool
     ensures { result ≡ every in_word bytes.now }
 {

@@ -19,7 +19,8 @@ pub enum Symbol {
     Word(u8),
 }
 
-// The left name may be replaced by the first `len` symbols.
+// The left name may be replaced by the first `len` symbols. With no heap, a rule is copied whole, so it has its array inside.
+// What a sheet's rules keep is no fact of this type: the definitions speak of rules of any length.
 #[derive(Clone, Copy)]
 pub struct Rule {
     pub weight: u16,
@@ -38,7 +39,7 @@ impl Rule {
     };
 }
 
-// The bytes of a name or a word: the first `len`.
+// The bytes of a name or a word: the first `len`. With no heap, it is copied whole.
 #[derive(Copy)]
 pub struct Spelling {
     pub len: u8,

@@ -9,7 +9,7 @@ pub struct Shelf<T: Copy, const N: usize> {
     ghost whole: { length (take len items) ≡ len },
 }
 
-// There is no room for one more.
+// There is no room: a limit would be passed.
 #[derive(Clone, Copy, PartialEq, Eq, Debug)]
 pub struct Full;
 

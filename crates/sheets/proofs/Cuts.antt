@@ -1,5 +1,5 @@
 -- Bytes cut at their first tab or end of line.
-use Rattle.std.proofs.Common.{◌≡◌, ℕ, zero, suc, ◌+◌, ◌-◌, ◌*◌, ◌<◌, ◌≤◌, Bool, true, not, cond, eqb, leb, ltb, List, [], ◌∷◌, ◌++◌, length, get_or, take, drop, position, unwrap_or, Some, None, sym, refl, ap, ◌∙◌, subst, subst₂, inl, inr, one-add, arith, ne_eqb, length-take, lt-ltb, le-ltb, eqb-true}
+use Rattle.std.proofs.Common.{◌≡◌, ℕ, zero, suc, ◌+◌, ◌-◌, ◌*◌, ◌<◌, ◌≤◌, Bool, true, not, eqb, leb, ltb, List, [], ◌∷◌, ◌++◌, length, get_or, take, drop, position, unwrap_or, Some, None, sym, refl, ap, ◌∙◌, subst, subst₂, inl, inr, one-add, arith, ne_eqb, length-take, lt-ltb, le-ltb, eqb-true}
 use Rattle.std.specs.List.{prefix_len}
 use borrow.Author.Tests.{eqb-false}
 use Rattle.std.proofs.lemmas.List.{take_rest, at_drop_more}

@@ -1,5 +1,5 @@
 -- A line ends at the first end of line.
-use Rattle.std.proofs.Common.{◌≡◌, ℕ, ◌-◌, ◌<◌, true, List, [], ◌∷◌, ◌++◌, map, length, take, drop, sym, refl, ap, ◌∙◌, subst, arith}
+use Rattle.std.proofs.Common.{◌≡◌, ℕ, ◌<◌, true, List, [], ◌∷◌, ◌++◌, map, length, sym, refl, ap, ◌∙◌, subst, arith}
 use Rattle.std.specs.List.{AllByRecursion}
 use Rattle.grammar.specs.Letters.{digit, every}
 use Rattle.sheets.specs.Lines.{Spelled, Line, rule, alias, filler, spelling, tabbed, kind, fields, written, Means, weight_spelled, well, Well}

@@ -1,7 +1,8 @@
 -- A filler line more.
-use Rattle.std.proofs.Common.{◌≡◌, ℕ, ◌^◌, ◌<◌, Bool, true, false, ◌||◌, List, [], ◌∷◌, ◌++◌, length, get_or, sym, refl, ap, ◌∙◌, subst, inl, inr}
+use Rattle.std.proofs.Common.{◌≡◌, ℕ, ◌^◌, ◌<◌, true, false, ◌||◌, List, [], ◌∷◌, ◌++◌, length, get_or, sym, ap, ◌∙◌, subst, inl, inr}
 use lib.Bits.{bit_or}
 use Rattle.std.specs.Str.{bytes_eq}
+use Rattle.std.proofs.Math.Bool.{or-false}
 use Rattle.std.proofs.lemmas.Slice.Eq.{bytes_eq-Decides}
 use Rattle.std.proofs.lemmas.Bool.{cases_eq, cases_Bool, or_left, or_right}
 use Rattle.grammar.specs.Bits.{has}
@@ -11,14 +12,10 @@ use Rattle.grammar.specs.Limits.{Apart}
 use Rattle.sheets.proofs.Apartness.{member_at}
 use Rattle.sheets.proofs.Grown.{member_append}
 
-or_false : (b : Bool) → (b || false) ≡ b
-or_false true = refl
-or_false false = refl
-
 module _ (W F : List (List ℕ)) (s : List ℕ) (k : ℕ) (below : k < length W) (is : get_or W k [] ≡ s) where
   pub filler_known : (t : List ℕ) → member t (s ∷ []) ≡ true → member t W ≡ true
   filler_known t h =
-      let same : bytes_eq t s ≡ true = sym (or_false (bytes_eq t s)) ∙ h in
+      let same : bytes_eq t s ≡ true = sym (or-false (bytes_eq t s)) ∙ h in
       subst (λ x. member x W ≡ true) (is ∙ sym ((bytes_eq-Decides t s).0 same)) (member_at W k below)
 
   -- the set of fillers has its number
@@ -37,5 +34,5 @@ module _ (W F : List (List ℕ)) (s : List ℕ) (k : ℕ) (below : k < length W)
               | inl q ↦ absurd (n (apart w k l below ((bytes_eq-Decides t s).0 q ∙ sym is)))
               | inr q ↦ q
             ] in
-            has_with_other old k w n ∙ before w l ∙ sym (split ∙ ap (λ b. member t F || (b || false)) differs ∙ or_false (member t F))
+            has_with_other old k w n ∙ before w l ∙ sym (split ∙ ap (λ b. member t F || (b || false)) differs ∙ or-false (member t F))
       ]

@@ -133,14 +133,13 @@ bare d b = record {
 
 -- a draft keeps the limits, and so do the lines that it holds
 pub room : (ls : List Line) (d : Draft) → Drafted ls d → Room ls
-room ls d h =
-    (
-      (let t = h.name_total in let f = d.names.fits in omega arith),
-      (let t = h.word_total in let f = d.words.fits in omega arith),
-      (let t = h.rule_total in let f = d.rules.fits in omega arith),
-      (let t = h.alias_total in let f = d.aliases.fits in omega arith),
-      (let t = h.places in let p = d.placed.2 in omega arith),
-    )
+room ls d h = (
+  (let t = h.name_total in let f = d.names.fits in omega arith),
+  (let t = h.word_total in let f = d.words.fits in omega arith),
+  (let t = h.rule_total in let f = d.rules.fits in omega arith),
+  (let t = h.alias_total in let f = d.aliases.fits in omega arith),
+  (let t = h.places in let p = d.placed.2 in omega arith),
+)
 
 -- a line more, where the draft holds its names and words
 module _ (before : List Line) (ℓ : Line) where

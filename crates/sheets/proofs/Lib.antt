@@ -1,7 +1,6 @@
 pub mod AliasLines
 pub mod Apartness
 pub mod Cuts
-pub mod Digits
 pub mod Ending
 pub mod FillerLines
 pub mod Grown

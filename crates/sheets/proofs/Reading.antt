@@ -2,7 +2,7 @@
 use Rattle.std.proofs.Common.{◌≡◌, ℕ, suc, Bool, true, false, not, ◌&&◌, eqb, List, [], ◌∷◌, ◌++◌, map, length, sym, refl, ap, ◌∙◌, subst, inl, inr, arith, eqb-true}
 use borrow.Author.Tests.{clash}
 use Rattle.std.proofs.lemmas.Bool.{and_parts, and_from, or_cases, or_left, or_right, cases_Bool, cond-true, cond-false}
-use Rattle.grammar.specs.Letters.{digit, small, capital, in_name, in_word, every, empty, name_spelled, word_spelled}
+use Rattle.grammar.specs.Letters.{digit, capital, in_name, in_word, every, empty, name_spelled, word_spelled}
 use Rattle.sheets.specs.Lines.{Spelled, name, word, Line, rule, alias, filler, spelling, tabbed, kind, fields, Means, weight_spelled, well}
 use Rattle.sheets.specs.inner.Fields.{other, Opens, Cut, Field, Fieldless, Holds, symbol_spelled, Symbols}
 use Rattle.sheets.proofs.Cuts.{cut_once, other_from}
@@ -21,12 +21,6 @@ module _ (b : ℕ) (no_word : in_word b ≡ false) (no-capital : capital b ≡ f
   in_name_apart : in_name b ≡ false
   in_name_apart = elim (cases_Bool (in_name b)) [
     | inl h ↦ absurd (clash (sym no_word ∙ or_left (in_name b) (eqb b 45) h))
-    | inr h ↦ h
-  ]
-
-  digit_apart : digit b ≡ false
-  digit_apart = elim (cases_Bool (digit b)) [
-    | inl h ↦ absurd (clash (sym in_name_apart ∙ or_right (small b) (digit b) h))
     | inr h ↦ h
   ]
 
@@ -120,42 +114,22 @@ symbols_cut bytes f r found (s ∷ ss, e, all) =
     (subst (λ x. symbol_spelled x ≡ true) (sym h.0) (spelled_symbol s all.0), (ss, h.1, all.1))
 
 -- a filler line
-pub filler_from : (bytes f r : List ℕ) → Field bytes f r → word_spelled f ≡ true → r ≡ [] → Holds bytes (filler f)
-filler_from bytes f r found h e = (found.0 ∙ ap (λ x. 9 ∷ (f ++ x)) e, h)
-
 pub filler_word : (bytes f r w : List ℕ) → Field bytes f r → Holds bytes (filler w) → (word_spelled f ≡ true) × (r ≡ [])
 filler_word bytes f r w found h =
     let e = field_first bytes f r w [] found h.0 (no_tab_word w h.1) in
     (subst (λ x. word_spelled x ≡ true) (sym e.0) h.1, e.1)
 
-pub filler_none : (bytes w : List ℕ) → Fieldless bytes → Holds bytes (filler w) → ⊥
-filler_none bytes w none h = field_none bytes w [] none h.0
-
 -- an alias line
-pub alias_from : (bytes f r m : List ℕ) → Field bytes f r → word_spelled f ≡ true → Holds r (filler m) → Holds bytes (alias f m)
-alias_from bytes f r m found h below = (found.0 ∙ ap (λ x. 9 ∷ (f ++ x)) below.0, (h, below.1))
-
 pub alias_parts : (bytes f r s m : List ℕ) → Field bytes f r → Holds bytes (alias s m) → (word_spelled f ≡ true) × Holds r (filler m)
 alias_parts bytes f r s m found h =
     let e = field_first bytes f r s (m ∷ []) found h.0 (no_tab_word s h.1.0) in
     (subst (λ x. word_spelled x ≡ true) (sym e.0) h.1.0, (e.1, h.1.1))
 
-pub alias_none : (bytes s m : List ℕ) → Fieldless bytes → Holds bytes (alias s m) → ⊥
-alias_none bytes s m none h = field_none bytes s (m ∷ []) none h.0
-
 -- a rule line
-pub rule_from : (bytes w r a q : List ℕ) → Field bytes w r → weight_spelled w ≡ true → Field r a q → name_spelled a ≡ true → Symbols q
-    → (ss : List Spelled) × Holds bytes (rule w a ss) × (q ≡ tabbed (map spelling ss))
-rule_from bytes w r a q found h next k below =
-    (below.0, (found.0 ∙ ap (λ x. 9 ∷ (w ++ x)) (next.0 ∙ ap (λ x. 9 ∷ (a ++ x)) below.1), (h, k, below.2)), below.1)
-
 pub rule_weight : (bytes f r w a : List ℕ) (ss : List Spelled) → Field bytes f r → Holds bytes (rule w a ss) → (weight_spelled f ≡ true) × (r ≡ tabbed (a ∷ map spelling ss))
 rule_weight bytes f r w a ss found h =
     let e = field_first bytes f r w (a ∷ map spelling ss) found h.0 (no_tab_weight w h.1.0) in
     (subst (λ x. weight_spelled x ≡ true) (sym e.0) h.1.0, e.1)
-
-pub rule_none : (bytes w a : List ℕ) (ss : List Spelled) → Fieldless bytes → Holds bytes (rule w a ss) → ⊥
-rule_none bytes w a ss none h = field_none bytes w (a ∷ map spelling ss) none h.0
 
 module _ (bytes f r w a : List ℕ) (ss : List Spelled) (found : Field bytes f r) (h : Holds bytes (rule w a ss)) where
   pub rule_short : Fieldless r → ⊥
@@ -176,12 +150,3 @@ pub line_parts : (bytes first rest : List ℕ) (ℓ : Line) → Cut 9 bytes firs
 line_parts bytes first rest ℓ cut means =
     let e = cut_once 9 first rest (kind ℓ) (tabbed (fields ℓ)) (sym cut.0 ∙ means.0) cut.1 (kind_free ℓ) cut.2 (opens_tabbed (fields ℓ)) in
     (e.0, (e.1, means.1))
-
-pub line_from : (bytes first rest : List ℕ) (ℓ : Line) → Cut 9 bytes first rest → first ≡ kind ℓ → Holds rest ℓ → Means bytes ℓ
-line_from bytes first rest ℓ cut e h = (cut.0 ∙ ap (λ x. x ++ rest) e ∙ ap (λ x. kind ℓ ++ x) h.0, h.1)
-
--- what a line of another kind would be
-pub no_line : (bytes first rest : List ℕ) (key : List ℕ) → Cut 9 bytes first rest → first ≡ key
-    → ((ℓ : Line) → kind ℓ ≡ key → Holds rest ℓ → ⊥) → (ℓ : Line) → Means bytes ℓ → ⊥
-no_line bytes first rest key cut e none ℓ means =
-    let p = line_parts bytes first rest ℓ cut means in none ℓ (sym p.0 ∙ e) p.1

@@ -8,6 +8,7 @@ use Rattle.grammar.specs.declared.Symbol.TheVariants.{Name, Word}
 use Rattle.grammar.specs.declared.Rule.{Rule}
 use Rattle.grammar.specs.declared.draft.Draft.{Draft}
 use Rattle.grammar.specs.Grammar.{Counted, Formed, right}
+use Rattle.grammar.proofs.Fronts.{counted_more}
 use Rattle.grammar.proofs.Pushed.{each_more}
 use Rattle.sheets.specs.Lines.{Spelled, name, word, Line, spelling, tabbed, well}
 use Rattle.sheets.specs.Spellings.{names_among, words_among, with_all}
@@ -38,10 +39,6 @@ Midway before N W ss bytes d p = (N₁ W₁ : List (List ℕ)) × (rest : List S
 abbrev with_symbol : Rule → Symbol → Rule
 with_symbol p k = record { weight = p.weight; left = p.left; len = p.len + 1; symbols = set p.symbols p.len k }
 
-counted_more : (n w n' w' : ℕ) (k : Symbol) → n ≤ n' → w ≤ w' → Counted n w k → Counted n' w' k
-counted_more n w n' w' (Name a) p q h = omega arith
-counted_more n w n' w' (Word v) p q h = omega arith
-
 -- the symbol entered is counted, and the counts have grown
 entered_counts : (d e : Draft) (f : List ℕ) (k : Symbol) → Entered d f k e → (d.names.len ≤ e.names.len) × (d.words.len ≤ e.words.len) × Counted e.names.len e.words.len k
 entered_counts d e f (Name a) h = (h.1.grown, (let same : e.words.len ≡ d.words.len = (let q = h.1.words in cc) in omega arith), h.1.counted)
@@ -55,7 +52,7 @@ formed_more d e f p k entered formed room few =
     let w = e.words.len in (
       (let l = formed.0 in let g = counts.0 in omega arith),
       (omega arith),
-      each_more (Counted n w) p.symbols p.len k (Name 0) room (λ i l. counted_more d.names.len d.words.len n w _ counts.0 counts.1 (formed.2 i l)) counts.2,
+      each_more (Counted n w) p.symbols p.len k (Name 0) room (λ i l. counted_more d.names.len d.words.len n w counts.0 counts.1 _ (formed.2 i l)) counts.2,
     )
 
 -- a symbol that is entered is spelled by its number

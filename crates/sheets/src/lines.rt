@@ -20,6 +20,7 @@ fn are_symbols(fields: &[u8]) -> bool
     ensures found { result ≡ true → Symbols fields.now }
     ensures passed { Symbols fields.now → result ≡ true }
 {
+    // Fields are cut as they come: splitting at tabs would also cut before the first.
     let mut rest = fields;
     while let Some((field, after)) = next_field(rest) {
         if !is_symbol(field) {

@@ -28,6 +28,7 @@ fn read_lines(text: &[u8]) -> Result<Draft, Fault>
 {
     let mut draft = Draft::new();
     let mut rest = text;
+    // Counted beside the rest: what is left after a line is known only once the line is read.
     let mut number = 0;
     while !rest.is_empty() {
         number += 1;

@@ -31,7 +31,10 @@ fn find(spellings: &[Spelling], bytes: &[u8]) -> Option<usize>
 }
 
 // The number of the spelling, which may be new.
-pub(crate) fn intern<const N: usize>(spellings: &mut Shelf<Spelling, N>, bytes: &[u8]) -> Result<u8, Full>
+pub(crate) fn intern<const N: usize>(
+    spellings: &mut Shelf<Spelling, N>,
+    bytes: &[u8],
+) -> Result<u8, Full>
     requires { N ≤ 255 }
     ensures { Enters spellings.old bytes.now result spellings.new }
 {

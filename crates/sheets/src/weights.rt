@@ -23,6 +23,7 @@ pub(crate) fn weight(digits: &[u8]) -> Result<u16, Full>
     requires { every digit digits.now ≡ true }
     ensures { elim result [ Ok n ↦ n ≡ number digits.now | Err e ↦ 65535 < number digits.now ] }
 {
+    // One test on a wider number: steps in `u16` that are checked one by one are no plainer.
     let mut n: u32 = 0;
     for c in digits {
         n = 10 * n + (*c - b'0') as u32;

@@ -1,5 +1,5 @@
 -- The closure over the rules while it is computed, with the words known or not. Assumes nothing.
-use Rattle.std.specs.Prelude.{◌≡◌, ℕ, ◌<◌, Bool, true, ◌&&◌, T, ◌⊎◌, ◌↔◌, List, [], ◌∷◌, length, get_or, Some, None, Option, slice_index_or}
+use Rattle.std.specs.Prelude.{◌≡◌, ℕ, ◌<◌, Bool, true, T, ◌⊎◌, ◌↔◌, List, [], ◌∷◌, length, get_or, Some, None, Option, slice_index_or}
 use Rattle.std.specs.List.{list_all}
 use Rattle.grammar.specs.declared.Symbol.{Symbol}
 use Rattle.grammar.specs.declared.Symbol.TheVariants.{Name, Word}

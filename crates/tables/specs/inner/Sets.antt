@@ -8,6 +8,7 @@ use Rattle.grammar.specs.declared.masks.Masks.{Masks}
 use Rattle.grammar.specs.Grammar.{Grammar, rule, right}
 use Rattle.grammar.specs.Closure.{Empties}
 use Rattle.grammar.specs.Dotted.{no_items}
+use Rattle.grammar.specs.Limits.{Lefts}
 use Rattle.tables.specs.Table.{At}
 use Rattle.tables.specs.Columns.{first_place, Has, Sure}
 
@@ -17,7 +18,7 @@ set_at sets a = (slice_index_or sets a no_items).words
 
 -- the left name of each rule is among the first names
 abbrev pub Named : Grammar → ℕ → Type 0
-Named g names = (r : ℕ) → r < length g.rules → (rule g r).left < names
+Named g names = Lefts names (length g.rules) g.rules
 
 -- a set has room for every dotted place
 abbrev pub Fitting : Grammar → Type 0
