@@ -1,5 +1,5 @@
 -- Where the first stretch of a cheapest cut ends. Assumes nothing.
-use Rattle.std.proofs.Common.{◌≡◌, ℕ, suc, ◌+◌, ◌≤◌, List, ◌∷◌, Some, None, Option, sym, refl, ap, ◌∙◌, subst, add-one}
+use Rattle.std.proofs.Common.{◌≡◌, ℕ, suc, ◌+◌, ◌≤◌, List, ◌∷◌, Some, None, Option, sym, refl, ap, ◌∙◌, subst, add-one, arith}
 use Rattle.grammar.specs.declared.Symbol.{Symbol}
 use Rattle.readings.specs.Scales.{Scale, Laws}
 use Rattle.readings.specs.inner.Least.{Least, cheaper, joined}
@@ -38,9 +38,12 @@ module _ {P : Type 0} (S : Scale P) (L : Laws S) (ch : Symbol → ℕ → ℕ �
 
 -- at the end of the loop the cut is chosen
 module _ {P : Type 0} (S : Scale P) (L : Laws S) (ws : List ℕ) (t : Table P) (i j k m : ℕ) (x : Symbol) (s : List Symbol) where
-  pub chosen_at : (to : ℕ) (best : Option P) (c : P) → Least S (Cuts S (child S ws t i j k) (x ∷ s) m j) (Some c) → Choosing S (child S ws t i j k) x s m j (suc j) to best → Chosen S ws t i j k m x s to
-  chosen_at to best c l h =
+  chosen_last : (to : ℕ) (best : Option P) (c : P) → Least S (Cuts S (child S ws t i j k) (x ∷ s) m j) (Some c) → Choosing S (child S ws t i j k) x s m j (suc j) to best → Chosen S ws t i j k m x s to
+  chosen_last to best c l h =
       let w = cut_all S L (child S ws t i j k) x s m j best h.least in
       let e : best ≡ Some c = least_one S L _ _ _ w l in
       let z = h.ends c e in
       record { ordered = z.ordered; head = z.head; tail = z.tail; priced = z.priced; least = z.least; whole = subst (λ (q : P). Least S (Cuts S (child S ws t i j k) (x ∷ s) m j) (Some q)) z.joins l }
+
+  pub chosen_at : (to : ℕ) (best : Option P) (c : P) → Least S (Cuts S (child S ws t i j k) (x ∷ s) m j) (Some c) → (n : ℕ) → n ≡ j → Choosing S (child S ws t i j k) x s m j (n + 1) to best → Chosen S ws t i j k m x s to
+  chosen_at to best c l n q g = let f : n + 1 ≡ suc j = omega arith in chosen_last to best c l (rw f at g)

@@ -1,5 +1,5 @@
 -- The cheapest cut, symbol by symbol from the right and stretch by stretch. Assumes nothing.
-use Rattle.std.proofs.Common.{◌≡◌, ℕ, suc, ◌+◌, ◌<◌, ◌≤◌, Bool, true, false, cond, eqb, ◌⊎◌, List, [], ◌∷◌, length, get_or, drop, set, Some, None, Option, sym, refl, ap, ◌∙◌, subst, inl, inr, add-one, arith, length-take-le, drop-cons, get_or-set_other, get_or-take, get_or-set_same}
+use Rattle.std.proofs.Common.{◌≡◌, ℕ, suc, ◌+◌, ◌-◌, ◌<◌, ◌≤◌, Bool, true, false, cond, eqb, ◌⊎◌, List, [], ◌∷◌, length, get_or, take, drop, set, Some, None, Option, sym, refl, ap, ◌∙◌, subst, inl, inr, add-one, arith, length-take, length-take-le, drop-cons, get_or-set_other, get_or-take, get_or-drop, get_or-set_same}
 use mathlib.Core.Logic.{by_cases}
 use native.Mathlib.Decide.{dec_lt, ℕ_discrete}
 use lib.Seq.{slice_empty}
@@ -12,6 +12,7 @@ use Rattle.readings.specs.Scales.{Scale, Laws}
 use Rattle.readings.specs.inner.Least.{Least, cheaper, joined}
 use Rattle.readings.specs.inner.Cuts.{Cuts, CutsBelow}
 use Rattle.readings.specs.inner.Columns.{marked, Written}
+use Rattle.readings.specs.inner.Cells.{AllCounted}
 use Rattle.readings.proofs.Least.{no_dearer_refl, least_none, least_same, least_either, least_joined}
 
 module _ {P : Type 0} (S : Scale P) (child : Symbol → ℕ → ℕ → Option P) where
@@ -58,13 +59,32 @@ module _ {P : Type 0} (S : Scale P) (L : Laws S) (child : Symbol → ℕ → ℕ
       → Least S (CutsBelow S child x s m n (suc n)) o → Least S (Cuts S child (x ∷ s) m n) o
   cut_all x s m n o l = least_same S L _ _ o (λ q c. c.0) (λ q c. (c, omega (arith, cuts_ordered S child s c.to n c.tail c.rest))) l
 
+  -- the last turn of the loop
+  pub cut_last : (x : Symbol) (s : List Symbol) (m n k : ℕ) (best first read both next : Option P) → k ≡ n → m ≤ k
+      → first ≡ child x m k → both ≡ joined S first read → next ≡ cheaper S best both
+      → Least S (CutsBelow S child x s m n k) best → Least S (Cuts S child s k n) read → Least S (Cuts S child (x ∷ s) m n) next
+  cut_last x s m n k best first read both next q h e f d l l' =
+      let w : k + 1 ≡ suc n = omega arith in
+      cut_all x s m n next (subst (λ (z : ℕ). Least S (CutsBelow S child x s m n z) next) w (cut_turn x s m n k best first read both next h e f d l l'))
+
 -- the symbols from the d-th on: the d-th and those after it
 pub right_cons : (p : Rule) (d : ℕ) (x : Symbol) → d < p.len → p.len ≤ length p.symbols → drop d (right p) ≡ get_or p.symbols d x ∷ drop (suc d) (right p)
 right_cons p d x h l = drop-cons (right p) d x (rw (length-take-le p.len p.symbols l) h) ∙ ap (λ (y : Symbol). y ∷ drop (suc d) (right p)) (get_or-take p.len p.symbols d x h)
 
+-- the symbols of a rule's right side are counted, and so are those from the d-th on
+counted : (p : Rule) → Formed 32 64 p → (d : ℕ) → d < length (right p) → Counted 32 64 (get_or (right p) d (Name 0))
+counted p f d h =
+    let l : d < p.len = omega (arith, length-take p.len p.symbols) in
+    rw (get_or-take p.len p.symbols d (Name 0) l) (f.2 d l)
+
+pub counted_from : (p : Rule) → Formed 32 64 p → (d : ℕ) → AllCounted (take (length (right p) - d) (drop d (right p)))
+counted_from p f d x h =
+    let l : x < length (right p) - d = omega (arith, length-take (length (right p) - d) (drop d (right p))) in
+    rw (get_or-take (length (right p) - d) (drop d (right p)) x (Name 0) l, get_or-drop d (right p) x (Name 0)) (counted p f (d + x) (omega arith))
+
 -- a name of the rule is one of 32
-pub named : (p : Rule) → Formed 32 64 p → (d b : ℕ) → d < p.len → get_or p.symbols d (Name 0) ≡ Name b → b < 32
-named p f d b h e = subst (Counted 32 64) e (f.2 d h)
+pub named : (p : Rule) → Formed 32 64 p → (d b : ℕ) → d < length (right p) → get_or (right p) d (Name 0) ≡ Name b → b < 32
+named p f d b h e = subst (Counted 32 64) e (counted p f d h)
 
 -- one element of a column more
 pub column_turn : {P : Type 0} {S : Scale P} {Q R : ℕ → P → Type 0} {ps ps' : List P} {bs bs' : List Bool} {best : Option P} (i j m : ℕ) → Written S ps bs ps' bs' m best
@@ -76,6 +96,12 @@ column_turn {S} {Q} {R} {ps} {ps'} {bs} {bs'} {best} i j m w f l = (
       (λ e. subst (λ (z : ℕ). Least S (R z) (marked S ps' bs' z)) (sym e) (subst (Least S (R m)) (sym w.here) l))
       (λ e. subst (Least S (R n)) (sym (w.other n e)) (f.1 n x (omega arith)))),
 )
+
+-- the same in the last turn
+pub column_last : {P : Type 0} {S : Scale P} {Q R : ℕ → P → Type 0} {ps ps' : List P} {bs bs' : List Bool} {best : Option P} (i j m : ℕ) → m ≡ j → Written S ps bs ps' bs' m best
+    → ((n : ℕ) → m ≤ n → n ≤ j → Least S (Q n) (marked S ps bs n)) × ((n : ℕ) → i ≤ n → n < m → Least S (R n) (marked S ps bs n)) → Least S (R m) best
+    → (n : ℕ) → i ≤ n → n ≤ j → Least S (R n) (marked S ps' bs' n)
+column_last i j m e w f l n x y = (column_turn i j m w f l).1 n x (omega arith)
 
 -- one element of a column more, by a function of its index
 pub column_more : {P : Type 0} {S : Scale P} {f : ℕ → Option P} {ps ps' : List P} {bs bs' : List Bool} {p : Option P} (i n : ℕ) → Written S ps bs ps' bs' n p → p ≡ f n

@@ -13,6 +13,8 @@ use Rattle.readings.specs.inner.Least.{Lower, Least, cheaper, joined}
 use Rattle.readings.specs.inner.Cuts.{Cuts}
 use Rattle.readings.specs.inner.Tables.{Table, child, Adds}
 use Rattle.readings.specs.inner.Columns.{marked, Written}
+use Rattle.readings.specs.declared.offers.Pick.{Pick}
+use Rattle.readings.specs.inner.Cells.{Picking}
 use Rattle.readings.specs.inner.Candidates.{Candidate, Offers, Leads, Best, Untouched, OfferedTo, Offered, Repriced, Within, Foremost}
 use Rattle.readings.proofs.Least.{none_some, no_dearer_refl, least_none, least_same, least_either, lower_joined}
 use Rattle.readings.proofs.Optimal.{child_here, Bounds, bounds_up, bounds_from, bounds_to}
@@ -144,6 +146,33 @@ module _ {P : Type 0} (S : Scale P) (L : Laws S) (col : ℕ → Option P) where
   pub foremost_take : (n r : ℕ) (o f : Option P) (r' : ℕ) (o' : Option P) → r' ≡ n → o' ≡ f → f ≡ col n → cheaper S o f ≡ f → Foremost S col n r o → Foremost S col (n + 1) r' o'
   foremost_take n r o f r' o' x y h e b =
       rw (add-one n, x, y) (record { least = subst (Least S (Within col (suc n))) e (least_more n o f h b.least); stands = λ p q. (omega arith, sym h ∙ q) })
+
+  -- the price of a pick
+  abbrev pub price_in : Option (Pick P) → Option P
+  price_in None = None
+  price_in (Some pick) = Some pick.price
+
+  picking_foremost : (n : ℕ) (best : Option (Pick P)) → Picking S col n best → (r : ℕ) × Foremost S col n r (price_in best)
+  picking_foremost n None h = (0, h)
+  picking_foremost n (Some pick) h = (pick.rule, h)
+
+  -- the pick stays
+  pub picking_keep : (n : ℕ) (best : Option (Pick P)) (f : Option P) → f ≡ col n → cheaper S (price_in best) f ≡ price_in best → Picking S col n best → Picking S col (n + 1) best
+  picking_keep n None f h e b = foremost_keep n 0 None f 0 None refl refl h e b
+  picking_keep n (Some pick) f h e b = foremost_keep n pick.rule (Some pick.price) f pick.rule (Some pick.price) refl refl h e b
+
+  -- the pick of an offer
+  abbrev pub pick_of : ℕ → Option P → Option (Pick P)
+  pick_of n None = None
+  pick_of n (Some p) = Some (record { rule = n; price = p })
+
+  -- the offer is picked
+  pub picking_take : (n : ℕ) (best : Option (Pick P)) (f : Option P) → f ≡ col n → cheaper S (price_in best) f ≡ f → Picking S col n best → Picking S col (n + 1) (pick_of n f)
+  picking_take n best None h e b =
+      let w = picking_foremost n best b in
+      let v = foremost_take n w.0 (price_in best) None n None refl refl h e w.1 in
+      record { least = v.least; stands = λ p q. absurd (none_some refl q) }
+  picking_take n best (Some p) h e b = let w = picking_foremost n best b in foremost_take n w.0 (price_in best) (Some p) n (Some p) refl refl h e w.1
 
 module _ {P : Type 0} (rules : List Rule) (S : Scale P) (L : Laws S) (ws : List ℕ) (t : Table P) (i j k : ℕ) where
   offer_leads : (n : ℕ) (f : Option P) (p : P) → Offers S ws t i j k (nth rules n) f → f ≡ Some p → Leads rules S ws t i j k n p

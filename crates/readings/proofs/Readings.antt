@@ -1,9 +1,11 @@
 -- Where the walk begins, and what it has written at its end. Assumes nothing.
-use Rattle.std.proofs.Common.{◌≡◌, ℕ, suc, ◌+◌, ◌<◌, ◌≤◌, List, [], ◌∷◌, length, take, drop, set, Some, None, sym, refl, ap, ◌∙◌, subst, subst₂, add-one, arith, take-append-drop, length-take}
+use Rattle.std.proofs.Common.{◌≡◌, ℕ, suc, ◌+◌, ◌-◌, ◌<◌, ◌≤◌, List, [], ◌∷◌, ◌++◌, length, take, drop, set, Some, None, Option, sym, refl, ap, ◌∙◌, subst, subst₂, add-one, arith, append_assoc, take-append-drop, length-take, drop-drop}
+use Rattle.std.proofs.lemmas.List.{drop-take}
 use Rattle.grammar.specs.declared.Symbol.TheVariants.{Name}
 use Rattle.grammar.specs.declared.Rule.{Rule}
-use Rattle.grammar.specs.Grammar.{right}
+use Rattle.grammar.specs.Grammar.{right, Grammar}
 use Rattle.grammar.specs.Trees.{Row, Fits}
+use Rattle.readings.specs.declared.read.Reading.{Reading}
 use Rattle.readings.specs.Scales.{Scale, Laws}
 use Rattle.readings.specs.Prices.{nth, price, form}
 use Rattle.readings.specs.Cheapest.{Cheapest, Unread}
@@ -67,3 +69,32 @@ stage_as {P} {rules} {S} {ws} {t} {a} {h} p q w = subst₂ (λ (x y : List ℕ).
 
 pub reads_as : {P : Type 0} {rules : List Rule} {S : Scale P} {ws : List ℕ} {t : Table P} {a : ℕ} {out out' : List ℕ} → out' ≡ out → Reads rules S ws t a out → Reads rules S ws t a out'
 reads_as {P} {rules} {S} {ws} {t} {a} q w = subst (Reads rules S ws t a) (sym q) w
+
+-- what a front leaves of its list
+drop_front : (n m k : ℕ) (xs : List ℕ) → n + m ≡ k → drop n (take k xs) ++ drop k xs ≡ drop n xs
+drop_front n m k xs e = rw (← e, drop-take n m xs, ← (drop-drop m n xs)) (take-append-drop m (drop n xs))
+
+-- what is read to the front of a list is read to the list
+module _ {P : Type 0} (g : Grammar) (S : Scale P) (ws : List ℕ) {before front front' after : List ℕ} (x : front ≡ take 9984 before) (y : after ≡ front' ++ drop 9984 before) where
+  pub cheapest_front : (n : ℕ) (c : P) → Cheapest g S ws front front' n c → Cheapest g S ws before after n c
+  cheapest_front n c h =
+      record {
+        derivation = h.derivation;
+        costs = h.costs;
+        least = h.least;
+        long = h.long;
+        short = h.short;
+        list =
+            let z : front' ≡ form h.derivation.0 ++ drop n (take 9984 before) = h.list ∙ ap (λ (l : List ℕ). form h.derivation.0 ++ drop n l) x in
+            let w : n + (9984 - n) ≡ 9984 = omega (arith, h.short) in
+            rw (y, z, append_assoc) (ap (λ (l : List ℕ). form h.derivation.0 ++ l) (drop_front n (9984 - n) 9984 before w));
+      }
+
+  pub unread_front : Unread g ws front front' → Unread g ws before after
+  unread_front h = record { underived = h.underived; same = y ∙ ap (λ (l : List ℕ). l ++ drop 9984 before) (h.same ∙ x) ∙ take-append-drop 9984 before }
+
+pub reading_front : {P : Type 0} (g g' : Grammar) (S : Scale P) (ws ws' before front front' after : List ℕ) → g ≡ g' → ws ≡ ws' → front ≡ take 9984 before → after ≡ front' ++ drop 9984 before
+    → (o : Option (Reading P)) → elim o as (λ _. Type 0) [ Some d ↦ Cheapest g S ws front front' d.length d.price | None ↦ Unread g ws front front' ]
+    → elim o as (λ _. Type 0) [ Some d ↦ Cheapest g' S ws' before after d.length d.price | None ↦ Unread g' ws' before after ]
+reading_front g g' S ws ws' before front front' after p q x y None h = unread_front g' S ws' x y (subst₂ (λ (a : Grammar) (b : List ℕ). Unread a b front front') p q h)
+reading_front g g' S ws ws' before front front' after p q x y (Some d) h = cheapest_front g' S ws' x y d.length d.price (subst₂ (λ (a : Grammar) (b : List ℕ). Cheapest a S b front front' d.length d.price) p q h)

@@ -1,5 +1,6 @@
 -- The turns of the walk on its stack. Assumes nothing.
-use Rattle.std.proofs.Common.{◌≡◌, ℕ, zero, suc, ◌+◌, ◌-◌, ◌<◌, ◌≤◌, List, [], ◌∷◌, ◌++◌, length, get_or, take, drop, set, Some, sym, refl, ap, ◌∙◌, subst, subst₂, add-one, arith, length-append, length-set, drop_of_length-le, length-take, drop-drop, take-suc-set, drop-set-lt}
+use Rattle.std.proofs.Common.{◌≡◌, ℕ, zero, suc, ◌+◌, ◌-◌, ◌<◌, ◌≤◌, List, [], ◌∷◌, ◌++◌, length, get_or, take, drop, set, Some, sym, refl, ap, ◌∙◌, subst, subst₂, add-one, arith, length-append, length-set, drop_of_length-le, length-take, length-drop, drop-cons, drop-drop, take-suc-set, drop-set-lt}
+use Rattle.std.proofs.lemmas.List.{take_all}
 use Rattle.grammar.specs.declared.Symbol.{Symbol}
 use Rattle.grammar.specs.declared.Symbol.TheVariants.{Name, Word}
 use Rattle.grammar.specs.declared.Rule.{Rule}
@@ -67,7 +68,25 @@ right_over n d s h = drop_of_length-le (take n s) (rw (length-take n s) (omega a
 pub length_right : (n : ℕ) (s : List Symbol) → n ≤ 8 → length (take n s) ≤ 8
 length_right n s h = rw (length-take n s) (omega arith)
 
+-- the stack is as high as it is deep
+pub stage_height : {P : Type 0} {rules : List Rule} {S : Scale P} {ws : List ℕ} {t : Table P} {goal : ℕ} {st : List ℕ} {out : List ℕ} (top h : ℕ) → h ≡ suc top → Stage rules S ws t goal st h out → h ≤ 640
+stage_height {P} {rules} {S} {ws} {t} {goal} {st} {out} top h e w =
+    let s = subst (λ (n : ℕ). Stage rules S ws t goal st n out) e w in
+    omega (arith, s.walk.deep.0, length_frames rules t st top)
+
+-- the symbols from the d-th on, where the d-th is n
+pub next_symbol : (s : List Symbol) (d : ℕ) (n : Symbol) → d < length s → get_or s d (Name 0) ≡ n → drop d s ≡ n ∷ drop (d + 1) s
+next_symbol s d n h e = rw (add-one d) (drop-cons s d (Name 0) h ∙ ap (λ (x : Symbol). x ∷ drop (suc d) s) e)
+
+-- all that is left of a list
+pub rest_all : (s : List Symbol) (d : ℕ) → take (length s - d) (drop d s) ≡ drop d s
+rest_all s d = take_all (length s - d) (drop d s) (omega (arith, length-drop d s))
+
 -- ---- a turn
+
+-- one symbol is left
+pub some_left : (s : List Symbol) (d : ℕ) → d < length s → 0 < length (take (length s - d) (drop d s))
+some_left s d h = rw (rest_all s d) (omega (arith, length-drop d s))
 
 module _ {P : Type 0} {rules : List Rule} {S : Scale P} {ws : List ℕ} {t : Table P} {goal : ℕ} {st : List ℕ} {top h i j a d m : ℕ} {out : List ℕ} (L : Laws S) (R : Recorded rules S ws t)
     (e : h ≡ suc top) (u : Unpacked (get_or st top 0) i j a d m) (w : Stage rules S ws t goal st h out) where
@@ -94,15 +113,20 @@ module _ {P : Type 0} {rules : List Rule} {S : Scale P} {ws : List ℕ} {t : Tab
     pub top_cut : (s : List Symbol) → drop d (right (nth rules r)) ≡ s → (c : P) × CutAt S ws t i j k s m (Some c)
     top_cut s z = let v = walk_top s z in (v.opened.0.cut, v.opened.0.least)
 
-    -- the symbol whose stretch is found is the frame's next
-    pub chosen_top : (n n' : Symbol) (s : List Symbol) (to : ℕ) → n ≡ n' → drop d (right (nth rules r)) ≡ n ∷ s
-        → ((c : P) → CutAt S ws t i j k (n' ∷ s) m (Some c) → Chosen S ws t i j k m n' s to) → Chosen S ws t i j k m n s to
-    chosen_top n n' s to q z f =
-        let c = top_cut (n ∷ s) z in
-        subst (λ (v : Symbol). Chosen S ws t i j k m v s to) (sym q) (f c.0 (subst (λ (v : Symbol). CutAt S ws t i j k (v ∷ s) m (Some c.0)) q c.1))
+    -- the frame on top: where it stands, its rule, its height and its name
+    pub top_facts : (i < j) × (i ≤ m) × (m ≤ j) × (j ≤ length ws) × (r < length rules) × (h ≤ 640) × (a < 32)
+    top_facts = let o = top_open in (o.0, o.1, o.2, o.3, top_listed, stage_height top h e w, omega (arith, u.a_is))
 
-    pub chosen_within : (n : Symbol) (s : List Symbol) (to : ℕ) → Chosen S ws t i j k m n s to → (m ≤ to) × (to ≤ j)
-    chosen_within n s to c = (c.ordered, chosen_upto S ws t i j k m to n s c)
+    -- the frame's next symbol, and where its stretch ends
+    pub next_facts : (n : Symbol) (to : ℕ) → d < length (right (nth rules r)) → get_or (right (nth rules r)) d (Name 0) ≡ n
+        → ((s' : List Symbol) (n' : Symbol) (c : P) → take (length (right (nth rules r)) - d) (drop d (right (nth rules r))) ≡ n' ∷ s' → CutAt S ws t i j k (take (length (right (nth rules r)) - d) (drop d (right (nth rules r)))) m (Some c) → Chosen S ws t i j k m n' s' to)
+        → (drop d (right (nth rules r)) ≡ n ∷ drop (d + 1) (right (nth rules r))) × Chosen S ws t i j k m n (drop (d + 1) (right (nth rules r))) to × (m ≤ to) × (to ≤ j)
+    next_facts n to b q f =
+        let z = next_symbol (right (nth rules r)) d n b q in
+        let v = rest_all (right (nth rules r)) d ∙ z in
+        let c = top_cut (n ∷ drop (d + 1) (right (nth rules r))) z in
+        let x = f (drop (d + 1) (right (nth rules r))) n c.0 v (subst (λ (l : List Symbol). CutAt S ws t i j k l m (Some c.0)) (sym v) c.1) in
+        (z, x, x.ordered, chosen_upto S ws t i j k m to n (drop (d + 1) (right (nth rules r))) x)
 
     -- from one list of frames to the next
     turned : (fs fs' : List Frame) (st' : List ℕ) (h' : ℕ) (out' : List ℕ) → frames rules t st h ≡ fs → frames rules t st' h' ≡ fs' → Walk rules S ws t (Reads rules S ws t goal) fs' out' → turns fs' < turns fs → Sound rules t st' h'
@@ -175,12 +199,6 @@ module _ {P : Type 0} {rules : List Rule} {S : Scale P} {ws : List ℕ} {t : Tab
               (rw (add-one n, p) some_walk)
               (turns_some rules S L ws t R (Reads rules S ws t goal) i j k m (frames rules t st top) out to b _ q f c (walk_top _ z))
               (sound_set rules t (set st top (packed i j a (d + 1) to)) h m to b 0 m upto lb (omega arith) (omega arith) (rw (length-set st top (packed i j a (d + 1) to)) lh) some_listed (next_sound upto))
-
--- the stack is as high as it is deep
-pub stage_height : {P : Type 0} {rules : List Rule} {S : Scale P} {ws : List ℕ} {t : Table P} {goal : ℕ} {st : List ℕ} {out : List ℕ} (top h : ℕ) → h ≡ suc top → Stage rules S ws t goal st h out → h ≤ 640
-stage_height {P} {rules} {S} {ws} {t} {goal} {st} {out} top h e w =
-    let s = subst (λ (n : ℕ). Stage rules S ws t goal st n out) e w in
-    omega (arith, s.walk.deep.0, length_frames rules t st top)
 
 -- the same of lists that are equal
 pub turned_as : {P : Type 0} {rules : List Rule} {S : Scale P} {ws : List ℕ} {t : Table P} {goal h h' : ℕ} {st : List ℕ} {st' st'' : List ℕ} {out' out'' : List ℕ} → st'' ≡ st' → out'' ≡ out' → Turned rules S ws t goal st h st' h' out' → Turned rules S ws t goal st h st'' h' out''

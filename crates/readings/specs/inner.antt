@@ -8,3 +8,5 @@ pub mod Filling
 pub mod Walks
 pub mod Places
 pub mod Stages
+pub mod Cells
+pub mod Spots

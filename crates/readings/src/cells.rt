@@ -1,9 +1,10 @@
 // The table: of each name over each stretch a price, a rank and a rule.
-ghost use Rattle.std.specs.Prelude.{◌≡◌, ℕ, ◌-◌, ◌/◌, ◌%◌, ◌<◌, ◌≤◌, true, false, length, None, ◌≢◌, slice_index};
+ghost use Rattle.std.specs.Prelude.{◌≡◌, ℕ, ◌+◌, ◌-◌, ◌/◌, ◌%◌, ◌<◌, ◌≤◌};
 ghost use Rattle.readings.specs.inner.Tables.{Adds};
 ghost use Rattle.readings.specs.inner.Places.{place, tabled, table};
+ghost use Rattle.readings.specs.Scales.{Scale};
 
-use super::scale::Scale;
+use super::ground::{Lent, Stretch};
 
 // Where the table has the name a over (i, j).
 pub(crate) fn find_place(i: usize, j: usize, a: usize) -> usize
@@ -13,81 +14,46 @@ pub(crate) fn find_place(i: usize, j: usize, a: usize) -> usize
     32 * (j * (j + 1) / 2 + i) + a
 }
 
-// Whether the table has a price for the name a over (i, j).
-pub(crate) fn has_price<S: Scale>(
-    prices: &[S::Price],
-    numbers: &[u32],
-    i: usize,
-    j: usize,
-    a: usize,
-) -> bool
-    requires { (i ≤ j) × (j ≤ 20) × (a < 32) × (7392 ≤ length prices.now) × (7392 ≤ length numbers.now) }
-    ensures no { result ≡ false → (table S.Scale.measure prices.now numbers.now).at i j a ≡ None }
-    ensures yes { result ≡ true → (table S.Scale.measure prices.now numbers.now).at i j a ≢ None }
-{
-    numbers[find_place(i, j, a)] != 0
-}
+impl<P: Copy> Stretch<'_, P> {
+    // The price of the name a over the stretch, if the table has one.
+    pub(crate) fn price_of(&self, a: usize) -> Option<P>
+        requires { a < 32 }
+        ensures { (S : Scale P) → result ≡ (table S self.now.ground.now.prices.now self.now.ground.now.numbers.now).at self.now.i self.now.j a }
+    {
+        let at = find_place(self.i, self.j, a);
+        if self.ground.numbers[at] == 0 {
+            None
+        } else {
+            Some(self.ground.prices[at])
+        }
+    }
 
-// The price of the name a over (i, j), if the table has one.
-pub(crate) fn price_of<S: Scale>(
-    prices: &[S::Price],
-    numbers: &[u32],
-    i: usize,
-    j: usize,
-    a: usize,
-) -> Option<S::Price>
-    requires { (i ≤ j) × (j ≤ 20) × (a < 32) × (7392 ≤ length prices.now) × (7392 ≤ length numbers.now) }
-    ensures { result ≡ (table S.Scale.measure prices.now numbers.now).at i j a }
-{
-    let at = find_place(i, j, a);
-    if numbers[at] == 0 {
-        None
-    } else {
-        Some(prices[at])
+    // The rank of the name a over the stretch.
+    pub(crate) fn rank_of(&self, a: usize) -> usize
+        requires { a < 32 }
+        ensures { result ≡ tabled self.now.ground.now.numbers.now self.now.i self.now.j a / 256 }
+    {
+        (self.ground.numbers[find_place(self.i, self.j, a)] / 256) as usize
+    }
+
+    // The rule of the name a over the stretch.
+    pub(crate) fn rule_of(&self, a: usize) -> usize
+        requires { a < 32 }
+        ensures { result ≡ tabled self.now.ground.now.numbers.now self.now.i self.now.j a % 256 - 1 }
+    {
+        (self.ground.numbers[find_place(self.i, self.j, a)] % 256).saturating_sub(1) as usize
     }
 }
 
-// The rank of the name a over (i, j).
-pub(crate) fn rank_of(numbers: &[u32], i: usize, j: usize, a: usize) -> usize
-    requires { (i ≤ j) × (j ≤ 20) × (a < 32) × (7392 ≤ length numbers.now) }
-    ensures { result ≡ tabled numbers.now i j a / 256 }
-{
-    (numbers[find_place(i, j, a)] / 256) as usize
-}
-
-// The rule of the name a over (i, j).
-pub(crate) fn rule_of(numbers: &[u32], i: usize, j: usize, a: usize) -> usize
-    requires { (i ≤ j) × (j ≤ 20) × (a < 32) × (7392 ≤ length numbers.now) }
-    ensures { result ≡ tabled numbers.now i j a % 256 - 1 }
-{
-    (numbers[find_place(i, j, a)] % 256).saturating_sub(1) as usize
-}
-
-// The name a gets the price p over (i, j), by the rule r, as the k-th there.
-pub(crate) fn put_price<S: Scale>(
-    prices: &mut [S::Price],
-    numbers: &mut [u32],
-    i: usize,
-    j: usize,
-    a: usize,
-    p: S::Price,
-    k: usize,
-    r: usize,
-)
-    requires { (i ≤ j) × (j ≤ 20) × (a < 32) × (k < 32) × (r < 128) × (7392 ≤ length prices.old) × (7392 ≤ length numbers.old) }
-    ensures { Adds (table S.Scale.measure prices.old numbers.old) (table S.Scale.measure prices.new numbers.new) i j a p k r }
-{
-    let at = find_place(i, j, a);
-    prices[at] = p;
-    numbers[at] = (256 * k + (r + 1)) as u32;
-}
-
-// No name has a price.
-pub(crate) fn clear(numbers: &mut [u32])
-    requires { 7392 ≤ length numbers.old }
-    ensures { (x : ℕ) → x < 7392 → slice_index numbers.new x ≡ 0 }
-{
-    for x in 0..7392 {
-        numbers[x] = 0;
+impl<P: Copy> Lent<'_, P> {
+    // The name a gets the price p over (i, j), by the rule r, as the k-th there.
+    pub(crate) fn put(&mut self, i: usize, j: usize, a: usize, p: P, k: usize, r: usize)
+        requires { (i ≤ j) × (j ≤ 20) × (a < 32) × (k < 32) × (r < 128) }
+        ensures adds { (S : Scale P) → Adds (table S self.old.prices.now self.old.numbers.now) (table S self.new.prices.now self.new.numbers.now) i j a p k r }
+        ensures words { self.new.words.now ≡ self.old.words.now }
+    {
+        let at = find_place(i, j, a);
+        self.prices[at] = p;
+        self.numbers[at] = (256 * k + (r + 1)) as u32;
     }
 }

@@ -1,53 +1,41 @@
-// Columns of prices: of each position one, if it is marked.
-ghost use Rattle.std.specs.Prelude.{◌≡◌, ℕ, ◌<◌, ◌≤◌, length, if◌then◌else◌, Some, None, nat_eq};
-ghost use Rattle.readings.specs.inner.Columns.{marked, Written};
+// Columns of prices, of which some are there.
+ghost use Rattle.std.specs.Prelude.{◌≡◌, ℕ, ◌<◌, ◌≤◌, length};
 
-use super::scale::Scale;
-
-// The column's price at n, if it is marked.
-pub(crate) fn read_column<S: Scale>(
-    column: &[S::Price],
-    marks: &[bool],
-    n: usize,
-) -> Option<S::Price>
-    requires { (n < length column.now) × (n < length marks.now) }
-    ensures { result ≡ marked S.Scale.measure column.now marks.now n }
-{
-    if marks[n] { Some(column[n]) } else { None }
+// A price for each of N positions, in lent memory, if it is marked. An array of prices could not be lent: a proof does not know how many bytes a price has.
+#[derive(Drop)]
+pub struct Column<'a, P, const N: usize> {
+    pub prices: &'a mut [P],
+    pub marks: [bool; N],
+    ghost long: { N ≤ length prices.now },
 }
 
-// The column's price at n becomes p, marked if it is there.
-pub(crate) fn write_column<S: Scale>(
-    column: &mut [S::Price],
-    marks: &mut [bool],
-    n: usize,
-    p: Option<S::Price>,
-)
-    requires { (n < length column.old) × (n < length marks.old) }
-    ensures { Written S.Scale.measure column.old marks.old column.new marks.new n p }
-{
-    match p {
-        None => marks[n] = false,
-        Some(q) => {
-            column[n] = q;
-            marks[n] = true;
+impl<P: Copy, const N: usize> Column<'_, P, N> {
+    ghost use Rattle.readings.specs.inner.Columns.{marked, Written};
+    ghost use Rattle.readings.specs.Scales.{Scale};
+
+    // The price at n, if it is marked.
+    pub(crate) fn get(&self, n: usize) -> Option<P>
+        requires { n < N }
+        ensures { (S : Scale P) → result ≡ marked S self.now.prices.now self.now.marks n }
+    {
+        if self.marks[n] {
+            Some(self.prices[n])
+        } else {
+            None
         }
     }
-}
 
-// The price of no symbols from n to j.
-fn end_price<S: Scale>(n: usize, j: usize) -> Option<S::Price>
-    ensures { result ≡ (if nat_eq n j then Some S.Scale.measure.unit else None) }
-{
-    if n == j { Some(S::unit()) } else { None }
-}
-
-// The cuts of no symbols: only from j to j.
-pub(crate) fn end_column<S: Scale>(i: usize, j: usize, column: &mut [S::Price], marks: &mut [bool])
-    requires { (i ≤ j) × (j ≤ 20) × (20 < length column.old) × (20 < length marks.old) }
-    ensures { (n : ℕ) → i ≤ n → n ≤ j → marked S.Scale.measure column.new marks.new n ≡ (if nat_eq n j then Some S.Scale.measure.unit else None) }
-{
-    for n in i..j + 1 {
-        write_column::<S>(column, marks, n, end_price::<S>(n, j));
+    // The price at n becomes p, marked if it is there.
+    pub(crate) fn set(&mut self, n: usize, p: Option<P>)
+        requires { n < N }
+        ensures { (S : Scale P) → Written S self.old.prices.now self.old.marks self.new.prices.now self.new.marks n p }
+    {
+        match p {
+            None => self.marks[n] = false,
+            Some(q) => {
+                self.prices[n] = q;
+                self.marks[n] = true;
+            }
+        }
     }
 }

@@ -1,30 +1,26 @@
 // The cheapest cuts of a rule's symbols over a stretch.
-ghost use Rattle.std.specs.Prelude.{◌≡◌, ◌+◌, ◌<◌, ◌≤◌, length, drop};
-ghost use Rattle.grammar.specs.Grammar.{right, Counted, Formed};
-ghost use Rattle.readings.specs.inner.Tables.{child, CutAt};
-ghost use Rattle.readings.specs.inner.Columns.{marked, Column};
-ghost use Rattle.readings.specs.inner.Places.{table};
+ghost use Rattle.std.specs.Prelude.{◌≡◌, ℕ, ◌+◌, ◌<◌, ◌≤◌, ◌∷◌, List, length, if◌then◌else◌, Some, None, nat_eq, slice_index_or};
+ghost use Rattle.readings.specs.inner.Columns.{marked};
+ghost use Rattle.readings.specs.inner.Cells.{AllCounted, child_in, CutIn, ColumnIn};
 
-use super::cells::find_place;
-use super::columns::{end_column, read_column, write_column};
-use super::ground::{Cell, Ground};
+use super::columns::Column;
+use super::ground::{Cell, Known, Stretch};
 use super::options::{join_both, pick_cheaper};
 use super::scale::Scale;
-use grammar::{Rule, Symbol};
+use grammar::Symbol;
 
 // The price of a symbol from m to n, where over (i, j) itself only names of a rank below k count.
 pub(crate) fn symbol_price<S: Scale>(
-    ground: Ground<S::Price>,
-    cell: Cell,
-    x: Symbol,
+    cell: &Cell<S::Price>,
+    x: Known,
     m: usize,
     n: usize,
 ) -> Option<S::Price>
-    requires m_le_n { (m ≤ n) × (n ≤ 20) × (n ≤ length ground.words.now) × (7392 ≤ length ground.prices.now) × (7392 ≤ length ground.numbers.now) }
-    requires counted { Counted 32 64 x }
-    ensures { result ≡ child S.Scale.measure ground.entry.words.now (table S.Scale.measure ground.entry.prices.now ground.entry.numbers.now) cell.i cell.j cell.k x m n }
+    requires { (m ≤ n) × (n ≤ cell.now.over.j) }
+    ensures { result ≡ child_in S.Scale.measure cell.now x.symbol m n }
 {
-    match x {
+    let ground = cell.over.ground;
+    match x.symbol {
         Symbol::Word(v) => {
             if n == m + 1 && ground.words[m] == v {
                 Some(S::unit())
@@ -33,79 +29,77 @@ pub(crate) fn symbol_price<S: Scale>(
             }
         }
         Symbol::Name(b) => {
-            let at = find_place(m, n, b as usize);
-            let e = ground.numbers[at];
-            if e == 0 || (m == cell.i && n == cell.j && (e / 256) as usize >= cell.k) {
+            let part = Stretch { ground, i: m, j: n };
+            let own = m == cell.over.i && n == cell.over.j;
+            if own && part.rank_of(b as usize) >= cell.k {
                 None
             } else {
-                Some(ground.prices[at])
+                part.price_of(b as usize)
             }
         }
     }
 }
 
-// The cheapest cut of the rule's symbols from the d-th on, from m to j, where the column has the cheapest cuts of those after it.
+// The cheapest cut of the symbol and those after it from m to j, where the column has the cheapest cuts of those after it.
 fn extend<S: Scale>(
-    ground: Ground<S::Price>,
-    cell: Cell,
-    rule: &Rule,
-    d: usize,
+    cell: &Cell<S::Price>,
+    x: Known,
     m: usize,
-    column: &[S::Price],
-    marks: &[bool],
+    column: &Column<S::Price, 21>,
 ) -> Option<S::Price>
-    requires m_le_j { (m ≤ cell.j) × (cell.j ≤ 20) × (cell.j ≤ length ground.words.now) × (7392 ≤ length ground.prices.now) × (7392 ≤ length ground.numbers.now) × (20 < length column.now) × (20 < length marks.now) × (d < rule.now.len) }
-    requires formed { Formed 32 64 rule.now }
-    requires column { Column S.Scale.measure ground.words.now (table S.Scale.measure ground.prices.now ground.numbers.now) cell.i cell.j cell.k (drop (d + 1) (right rule.now)) m (marked S.Scale.measure column.now marks.now) }
-    ensures { CutAt S.Scale.measure ground.entry.words.now (table S.Scale.measure ground.entry.prices.now ground.entry.numbers.now) cell.i cell.j cell.k (drop d (right rule.now)) m result }
+    requires { m ≤ cell.now.over.j }
+    ensures { (s : List Symbol) → ColumnIn S.Scale.measure cell.now s m (marked S.Scale.measure column.now.prices.now column.now.marks) → CutIn S.Scale.measure cell.now (x.symbol ∷ s) m result }
 {
-    let x = rule.symbols[d];
     let mut best = None;
-    for n in m..cell.j + 1 {
-        let first = symbol_price::<S>(ground, cell, x, m, n);
-        best = pick_cheaper::<S>(
-            best,
-            join_both::<S>(first, read_column::<S>(column, marks, n)),
-        );
+    for n in m..=cell.over.j {
+        let first = symbol_price::<S>(cell, x, m, n);
+        best = pick_cheaper::<S>(best, join_both::<S>(first, column.get(n)));
     }
     best
 }
 
-// One symbol more, the d-th, at every position from i to j.
-fn prepend<S: Scale>(
-    ground: Ground<S::Price>,
-    cell: Cell,
-    rule: &Rule,
-    d: usize,
-    column: &mut [S::Price],
-    marks: &mut [bool],
-)
-    requires i_le_j { (cell.i ≤ cell.j) × (cell.j ≤ 20) × (cell.j ≤ length ground.words.now) × (7392 ≤ length ground.prices.now) × (7392 ≤ length ground.numbers.now) × (20 < length column.old) × (20 < length marks.old) × (d < rule.now.len) }
-    requires formed { Formed 32 64 rule.now }
-    requires column { Column S.Scale.measure ground.words.now (table S.Scale.measure ground.prices.now ground.numbers.now) cell.i cell.j cell.k (drop (d + 1) (right rule.now)) cell.i (marked S.Scale.measure column.old marks.old) }
-    ensures { Column S.Scale.measure ground.entry.words.now (table S.Scale.measure ground.entry.prices.now ground.entry.numbers.now) cell.i cell.j cell.k (drop d (right rule.now)) cell.i (marked S.Scale.measure column.new marks.new) }
+// One symbol more before those whose cheapest cuts the column has, at every position from i to j.
+fn prepend<S: Scale>(cell: &Cell<S::Price>, x: Known, column: &mut Column<S::Price, 21>)
+    ensures { (s : List Symbol) → ColumnIn S.Scale.measure cell.now s cell.now.over.i (marked S.Scale.measure column.old.prices.now column.old.marks)
+        → ColumnIn S.Scale.measure cell.now (x.symbol ∷ s) cell.now.over.i (marked S.Scale.measure column.new.prices.now column.new.marks) }
 {
-    for m in cell.i..cell.j + 1 {
-        let best = extend::<S>(ground, cell, rule, d, m, column, marks);
-        write_column::<S>(column, marks, m, best);
+    for m in cell.over.i..=cell.over.j {
+        let best = extend::<S>(cell, x, m, column);
+        column.set(m, best);
     }
 }
 
-// The cheapest cuts of the rule's symbols from the d-th on, from every position from i to j.
-pub(crate) fn cut_from<S: Scale>(
-    ground: Ground<S::Price>,
-    cell: Cell,
-    rule: &Rule,
-    d: usize,
-    column: &mut [S::Price],
-    marks: &mut [bool],
-)
-    requires i_le_j { (cell.i ≤ cell.j) × (cell.j ≤ 20) × (cell.j ≤ length ground.words.now) × (7392 ≤ length ground.prices.now) × (7392 ≤ length ground.numbers.now) × (20 < length column.old) × (20 < length marks.old) × (d ≤ rule.now.len) }
-    requires formed { Formed 32 64 rule.now }
-    ensures { Column S.Scale.measure ground.entry.words.now (table S.Scale.measure ground.entry.prices.now ground.entry.numbers.now) cell.i cell.j cell.k (drop d (right rule.now)) cell.i (marked S.Scale.measure column.new marks.new) }
+// The price of no symbols from n to j.
+fn end_price<S: Scale>(n: usize, j: usize) -> Option<S::Price>
+    ensures { result ≡ (if nat_eq n j then Some S.Scale.measure.unit else None) }
 {
-    end_column::<S>(cell.i, cell.j, column, marks);
-    for e in (d..rule.len as usize).rev() {
-        prepend::<S>(ground, cell, rule, e, column, marks);
+    if n == j { Some(S::unit()) } else { None }
+}
+
+// The cuts of no symbols: only from j to j.
+fn end_column<S: Scale>(i: usize, j: usize, column: &mut Column<S::Price, 21>)
+    requires { (i ≤ j) × (j ≤ 20) }
+    ensures { (n : ℕ) → i ≤ n → n ≤ j → marked S.Scale.measure column.new.prices.now column.new.marks n ≡ (if nat_eq n j then Some S.Scale.measure.unit else None) }
+{
+    for n in i..=j {
+        column.set(n, end_price::<S>(n, j));
+    }
+}
+
+// The cheapest cuts of the symbols, from every position from i to j.
+pub(crate) fn cut_all<S: Scale>(
+    cell: &Cell<S::Price>,
+    symbols: &[Symbol],
+    column: &mut Column<S::Price, 21>,
+)
+    requires { AllCounted symbols.now }
+    ensures { ColumnIn S.Scale.measure cell.now symbols.now cell.now.over.i (marked S.Scale.measure column.new.prices.now column.new.marks) }
+{
+    match symbols {
+        [] => end_column::<S>(cell.over.i, cell.over.j, column),
+        [symbol, after @ ..] => {
+            cut_all::<S>(cell, after, column);
+            prepend::<S>(cell, Known { symbol: *symbol }, column);
+        }
     }
 }

@@ -1,39 +1,31 @@
 // Where the stretch of a symbol ends in a cheapest cut.
-ghost use Rattle.std.specs.Prelude.{◌+◌, ◌<◌, ◌≤◌, ◌∷◌, length, drop, Some, slice_index_or};
-ghost use Rattle.grammar.specs.Grammar.{right, Formed};
-ghost use Rattle.readings.specs.inner.Tables.{CutAt, Chosen};
-ghost use Rattle.readings.specs.inner.Columns.{marked, Column};
-ghost use Rattle.readings.specs.inner.Places.{table};
+ghost use Rattle.std.specs.Prelude.{◌≡◌, ◌<◌, ◌≤◌, ◌∷◌, List, length, Some};
+ghost use Rattle.readings.specs.inner.Columns.{marked};
+ghost use Rattle.readings.specs.inner.Cells.{AllCounted, CutIn, ColumnIn, ChosenIn};
 
-use super::columns::read_column;
-use super::cut::{cut_from, symbol_price};
-use super::ground::{Cell, Ground};
+use super::columns::Column;
+use super::cut::{cut_all, symbol_price};
+use super::ground::{Cell, Known};
 use super::options::{improves, join_both};
 use super::scale::Scale;
-use grammar::{Rule, Symbol};
+use grammar::Symbol;
 
-// Where the stretch of the rule's d-th symbol ends in a cheapest cut of the symbols from it on, from m to j.
+// Where the stretch of the symbol ends in a cheapest cut of it and those after it, from m to j, where the column has the cheapest cuts of those after it.
 fn choose<S: Scale>(
-    ground: Ground<S::Price>,
-    cell: Cell,
-    rule: &Rule,
-    d: usize,
+    cell: &Cell<S::Price>,
+    x: Known,
     m: usize,
-    column: &[S::Price],
-    marks: &[bool],
+    column: &Column<S::Price, 21>,
 ) -> usize
-    requires m_le_j { (m ≤ cell.j) × (cell.j ≤ 20) × (cell.j ≤ length ground.words.now) × (7392 ≤ length ground.prices.now) × (7392 ≤ length ground.numbers.now) × (20 < length column.now) × (20 < length marks.now) × (d < rule.now.len) }
-    requires formed { Formed 32 64 rule.now }
-    requires column { Column S.Scale.measure ground.words.now (table S.Scale.measure ground.prices.now ground.numbers.now) cell.i cell.j cell.k (drop (d + 1) (right rule.now)) m (marked S.Scale.measure column.now marks.now) }
-    ensures { (c : _) → CutAt S.Scale.measure ground.entry.words.now (table S.Scale.measure ground.entry.prices.now ground.entry.numbers.now) cell.i cell.j cell.k (slice_index_or rule.now.symbols d (Symbol.Name 0) ∷ drop (d + 1) (right rule.now)) m (Some c)
-        → Chosen S.Scale.measure ground.entry.words.now (table S.Scale.measure ground.entry.prices.now ground.entry.numbers.now) cell.i cell.j cell.k m (slice_index_or rule.now.symbols d (Symbol.Name 0)) (drop (d + 1) (right rule.now)) result }
+    requires { m ≤ cell.now.over.j }
+    ensures { (s : List Symbol) (c : _) → ColumnIn S.Scale.measure cell.now s m (marked S.Scale.measure column.now.prices.now column.now.marks)
+        → CutIn S.Scale.measure cell.now (x.symbol ∷ s) m (Some c) → ChosenIn S.Scale.measure cell.now m x.symbol s result }
 {
-    let x = rule.symbols[d];
     let mut best = None;
     let mut to = m;
-    for n in m..cell.j + 1 {
-        let first = symbol_price::<S>(ground, cell, x, m, n);
-        let both = join_both::<S>(first, read_column::<S>(column, marks, n));
+    for n in m..=cell.over.j {
+        let first = symbol_price::<S>(cell, x, m, n);
+        let both = join_both::<S>(first, column.get(n));
         if improves::<S>(best, both) {
             best = both;
             to = n;
@@ -42,21 +34,18 @@ fn choose<S: Scale>(
     to
 }
 
-// Where the stretch of the rule's d-th symbol ends in a cheapest cut from m to j.
+// Where the stretch of the first symbol ends in a cheapest cut of the symbols from m to j.
 pub(crate) fn find_end<S: Scale>(
-    ground: Ground<S::Price>,
-    cell: Cell,
-    rule: &Rule,
-    d: usize,
+    cell: &Cell<S::Price>,
+    symbols: &[Symbol],
     m: usize,
-    column: &mut [S::Price],
-    marks: &mut [bool],
+    column: &mut Column<S::Price, 21>,
 ) -> usize
-    requires i_le_m { (cell.i ≤ m) × (m ≤ cell.j) × (cell.j ≤ 20) × (cell.j ≤ length ground.words.now) × (7392 ≤ length ground.prices.now) × (7392 ≤ length ground.numbers.now) × (20 < length column.old) × (20 < length marks.old) × (d < rule.now.len) }
-    requires formed { Formed 32 64 rule.now }
-    ensures { (c : _) → CutAt S.Scale.measure ground.entry.words.now (table S.Scale.measure ground.entry.prices.now ground.entry.numbers.now) cell.i cell.j cell.k (slice_index_or rule.now.symbols d (Symbol.Name 0) ∷ drop (d + 1) (right rule.now)) m (Some c)
-        → Chosen S.Scale.measure ground.entry.words.now (table S.Scale.measure ground.entry.prices.now ground.entry.numbers.now) cell.i cell.j cell.k m (slice_index_or rule.now.symbols d (Symbol.Name 0)) (drop (d + 1) (right rule.now)) result }
+    requires within { (cell.now.over.i ≤ m) × (m ≤ cell.now.over.j) × (0 < length symbols.now) }
+    requires counted { AllCounted symbols.now }
+    ensures { (s : List Symbol) (x : Symbol) (c : _) → symbols.now ≡ x ∷ s → CutIn S.Scale.measure cell.now symbols.now m (Some c) → ChosenIn S.Scale.measure cell.now m x s result }
 {
-    cut_from::<S>(ground, cell, rule, d + 1, column, marks);
-    choose::<S>(ground, cell, rule, d, m, column, marks)
+    cut_all::<S>(cell, &symbols[1..], column);
+    let x = Known { symbol: symbols[0] };
+    choose::<S>(cell, x, m, column)
 }

@@ -11,4 +11,5 @@ mod offers;
 mod options;
 pub mod read;
 pub mod scale;
+mod spot;
 mod walk;

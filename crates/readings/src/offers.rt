@@ -1,78 +1,45 @@
 // What rules offer the names of a cell: candidates for their prices.
-ghost use Rattle.std.specs.Prelude.{◌≡◌, ◌<◌, ◌≤◌, false, length, Some, ◌≢◌};
+ghost use Rattle.std.specs.Prelude.{◌≡◌, ◌≤◌, false, ◌≢◌};
 ghost use Rattle.grammar.specs.Grammar.{Formed};
-ghost use Rattle.grammar.specs.Closure.{AllFormed};
-ghost use Rattle.readings.specs.inner.Least.{joined};
 ghost use Rattle.readings.specs.inner.Columns.{marked};
-ghost use Rattle.readings.specs.inner.Candidates.{Offers, Untouched, Offered, Repriced, Foremost};
-ghost use Rattle.readings.specs.inner.Places.{table};
+ghost use Rattle.readings.specs.inner.Candidates.{Untouched};
+ghost use Rattle.readings.specs.inner.Cells.{OffersIn, OfferedIn, RepricedIn, Picking};
 
-use super::cells::has_price;
-use super::columns::{read_column, write_column};
-use super::cut::cut_from;
-use super::ground::{Cell, Ground};
+use super::columns::Column;
+use super::cut::cut_all;
+use super::ground::{Cell, Rules};
 use super::options::{improves, join_both};
 use super::scale::Scale;
 use grammar::{Rule, Symbol};
 
-// The rule's weight joined with the column's price at i.
-fn weigh_in<S: Scale>(
-    rule: &Rule,
-    column: &[S::Price],
-    marks: &[bool],
-    i: usize,
-) -> Option<S::Price>
-    requires { (i < length column.now) × (i < length marks.now) }
-    ensures { result ≡ joined S.Scale.measure (Some (S.Scale.measure.weigh rule.now.weight)) (marked S.Scale.measure column.now marks.now i) }
-{
-    join_both::<S>(
-        Some(S::weigh(rule.weight)),
-        read_column::<S>(column, marks, i),
-    )
-}
-
-// What the rule offers its left name over (i, j).
+// What the rule offers its left name over the cell.
 fn offer_of<S: Scale>(
-    ground: Ground<S::Price>,
-    cell: Cell,
+    cell: &Cell<S::Price>,
     rule: &Rule,
-    column: &mut [S::Price],
-    marks: &mut [bool],
+    column: &mut Column<S::Price, 21>,
 ) -> Option<S::Price>
-    requires i_le_j { (cell.i ≤ cell.j) × (cell.j ≤ 20) × (cell.j ≤ length ground.words.now) × (7392 ≤ length ground.prices.now) × (7392 ≤ length ground.numbers.now) × (20 < length column.old) × (20 < length marks.old) }
-    requires formed { Formed 32 64 rule.now }
-    ensures { Offers S.Scale.measure ground.entry.words.now (table S.Scale.measure ground.entry.prices.now ground.entry.numbers.now) cell.i cell.j cell.k rule.now result }
+    requires { Formed 32 64 rule.now }
+    ensures { OffersIn S.Scale.measure cell.now rule.now result }
 {
-    if has_price::<S>(
-        ground.prices,
-        ground.numbers,
-        cell.i,
-        cell.j,
-        rule.left as usize,
-    ) {
+    if cell.over.price_of(rule.left as usize).is_some() {
         return None;
     }
-    cut_from::<S>(ground, cell, rule, 0, column, marks);
-    weigh_in::<S>(rule, column, marks, cell.i)
+    cut_all::<S>(cell, &rule.symbols[..rule.len as usize], column);
+    join_both::<S>(Some(S::weigh(rule.weight)), column.get(cell.over.i))
 }
 
 // Every rule's offer, each at the rule's number.
 pub(crate) fn offer_all<S: Scale>(
-    rules: &[Rule],
-    ground: Ground<S::Price>,
-    cell: Cell,
-    column: &mut [S::Price],
-    marks: &mut [bool],
-    offers: &mut [S::Price],
-    offered: &mut [bool],
+    rules: Rules,
+    cell: &Cell<S::Price>,
+    column: &mut Column<S::Price, 21>,
+    offers: &mut Column<S::Price, 128>,
 )
-    requires i_le_j { (cell.i ≤ cell.j) × (cell.j ≤ 20) × (cell.j ≤ length ground.words.now) × (7392 ≤ length ground.prices.now) × (7392 ≤ length ground.numbers.now) × (20 < length column.old) × (20 < length marks.old) × (length rules.now ≤ length offers.old) × (length rules.now ≤ length offered.old) }
-    requires all_formed { AllFormed 32 64 rules.now }
-    ensures { Offered rules.now S.Scale.measure ground.entry.words.now (table S.Scale.measure ground.entry.prices.now ground.entry.numbers.now) cell.i cell.j cell.k (marked S.Scale.measure offers.new offered.new) }
+    ensures { OfferedIn rules.entry.list.now S.Scale.measure cell.now (marked S.Scale.measure offers.new.prices.now offers.new.marks) }
 {
-    for r in 0..rules.len() {
-        let offer = offer_of::<S>(ground, cell, &rules[r], column, marks);
-        write_column::<S>(offers, offered, r, offer);
+    for (r, rule) in rules.list.iter().enumerate() {
+        let offer = offer_of::<S>(cell, rule, column);
+        offers.set(r, offer);
     }
 }
 
@@ -80,10 +47,7 @@ pub(crate) fn offer_all<S: Scale>(
 fn is_name(x: Symbol, a: usize) -> bool
     ensures { result ≡ false → x ≢ Symbol.Name a }
 {
-    match x {
-        Symbol::Word(_) => false,
-        Symbol::Name(b) => b as usize == a,
-    }
+    matches!(x, Symbol::Name(b) if b as usize == a)
 }
 
 // Whether the name a stands on a side of the rule, so that its price may change what the rule offers.
@@ -91,37 +55,25 @@ fn touches(rule: &Rule, a: usize) -> bool
     requires { rule.now.len ≤ 8 }
     ensures { result ≡ false → Untouched rule.now a }
 {
-    if rule.left as usize == a {
-        return true;
-    }
-    for d in 0..rule.len as usize {
-        if is_name(rule.symbols[d], a) {
-            return true;
-        }
-    }
-    false
+    let right = &rule.symbols[..rule.len as usize];
+    rule.left as usize == a || right.iter().any(|x| is_name(*x, a))
 }
 
-// Prices the rules anew that the name a touches, after it has got its price over (i, j).
+// Prices the rules anew that the name a touches, after it has got its price over the cell.
 pub(crate) fn reprice<S: Scale>(
-    rules: &[Rule],
-    ground: Ground<S::Price>,
-    cell: Cell,
+    rules: Rules,
+    cell: &Cell<S::Price>,
     a: usize,
-    column: &mut [S::Price],
-    marks: &mut [bool],
-    offers: &mut [S::Price],
-    offered: &mut [bool],
+    column: &mut Column<S::Price, 21>,
+    offers: &mut Column<S::Price, 128>,
 )
-    requires i_le_j { (cell.i ≤ cell.j) × (cell.j ≤ 20) × (cell.j ≤ length ground.words.now) × (7392 ≤ length ground.prices.now) × (7392 ≤ length ground.numbers.now) × (20 < length column.old) × (20 < length marks.old) × (length rules.now ≤ length offers.old) × (length rules.now ≤ length offered.old) }
-    requires all_formed { AllFormed 32 64 rules.now }
-    requires repriced { Repriced rules.now S.Scale.measure ground.words.now (table S.Scale.measure ground.prices.now ground.numbers.now) cell.i cell.j cell.k a 0 (marked S.Scale.measure offers.old offered.old) }
-    ensures { Offered rules.now S.Scale.measure ground.entry.words.now (table S.Scale.measure ground.entry.prices.now ground.entry.numbers.now) cell.i cell.j cell.k (marked S.Scale.measure offers.new offered.new) }
+    requires { RepricedIn rules.list.now S.Scale.measure cell.now a 0 (marked S.Scale.measure offers.old.prices.now offers.old.marks) }
+    ensures { OfferedIn rules.entry.list.now S.Scale.measure cell.now (marked S.Scale.measure offers.new.prices.now offers.new.marks) }
 {
-    for r in 0..rules.len() {
-        if touches(&rules[r], a) {
-            let offer = offer_of::<S>(ground, cell, &rules[r], column, marks);
-            write_column::<S>(offers, offered, r, offer);
+    for (r, rule) in rules.list.iter().enumerate() {
+        if touches(rule, a) {
+            let offer = offer_of::<S>(cell, rule, column);
+            offers.set(r, offer);
         }
     }
 }
@@ -130,29 +82,23 @@ pub(crate) fn reprice<S: Scale>(
 #[derive(Clone, Copy)]
 pub struct Pick<P> {
     pub rule: usize,
-    pub price: Option<P>,
+    pub price: P,
 }
 
 // The cheapest of the first n offers.
 pub(crate) fn cheapest_offer<S: Scale>(
-    offers: &[S::Price],
-    offered: &[bool],
+    offers: &Column<S::Price, 128>,
     n: usize,
-) -> Pick<S::Price>
-    requires { (n ≤ length offers.now) × (n ≤ length offered.now) }
-    ensures { Foremost S.Scale.measure (marked S.Scale.measure offers.now offered.now) n result.rule result.price }
+) -> Option<Pick<S::Price>>
+    requires { n ≤ 128 }
+    ensures { Picking S.Scale.measure (marked S.Scale.measure offers.now.prices.now offers.now.marks) n result }
 {
-    let mut best = None;
-    let mut at = 0;
+    let mut best: Option<Pick<S::Price>> = None;
     for r in 0..n {
-        let offer = read_column::<S>(offers, offered, r);
-        if improves::<S>(best, offer) {
-            best = offer;
-            at = r;
+        let offer = offers.get(r);
+        if improves::<S>(best.map(|pick| pick.price), offer) {
+            best = offer.map(|price| Pick { rule: r, price });
         }
     }
-    Pick {
-        rule: at,
-        price: best,
-    }
+    best
 }

@@ -8,12 +8,9 @@ use super::scale::Scale;
 pub(crate) fn pick_cheaper<S: Scale>(a: Option<S::Price>, b: Option<S::Price>) -> Option<S::Price>
     ensures { result ≡ cheaper S.Scale.measure a b }
 {
-    match a {
-        None => b,
-        Some(p) => match b {
-            None => Some(p),
-            Some(q) => if S::no_dearer(p, q) { Some(p) } else { Some(q) },
-        },
+    match (a, b) {
+        (Some(p), Some(q)) => Some(if S::no_dearer(p, q) { p } else { q }),
+        _ => a.or(b),
     }
 }
 
@@ -21,13 +18,7 @@ pub(crate) fn pick_cheaper<S: Scale>(a: Option<S::Price>, b: Option<S::Price>) -
 pub(crate) fn join_both<S: Scale>(a: Option<S::Price>, b: Option<S::Price>) -> Option<S::Price>
     ensures { result ≡ joined S.Scale.measure a b }
 {
-    match a {
-        None => None,
-        Some(p) => match b {
-            None => None,
-            Some(q) => Some(S::join(p, q)),
-        },
-    }
+    a.zip(b).map(|(p, q)| S::join(p, q))
 }
 
 // Whether the offer is there and cheaper than the best so far.
@@ -35,11 +26,8 @@ pub(crate) fn improves<S: Scale>(best: Option<S::Price>, offer: Option<S::Price>
     ensures no { result ≡ false → cheaper S.Scale.measure best offer ≡ best }
     ensures yes { result ≡ true → cheaper S.Scale.measure best offer ≡ offer }
 {
-    match best {
-        None => offer.is_some(),
-        Some(b) => match offer {
-            None => false,
-            Some(o) => !S::no_dearer(b, o),
-        },
+    match (best, offer) {
+        (Some(b), Some(o)) => !S::no_dearer(b, o),
+        _ => best.is_none() && offer.is_some(),
     }
 }

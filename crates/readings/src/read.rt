@@ -1,18 +1,17 @@
 // A cheapest reading of words on a sheet.
 ghost use Rattle.std.specs.Prelude.{◌+◌, ◌<◌, ◌≤◌, length, Some, None};
-ghost use Rattle.grammar.specs.Closure.{AllFormed};
 ghost use Rattle.grammar.specs.View.{grammar_of};
 ghost use Rattle.readings.specs.Cheapest.{Cheapest, Unread};
 ghost use Rattle.readings.specs.inner.Tables.{Filled};
-ghost use Rattle.readings.specs.inner.Places.{table};
+ghost use Rattle.readings.specs.inner.Cells.{shown};
 ghost use Rattle.readings.specs.inner.Stages.{started};
 
-use super::cells::{price_of, rule_of};
+use super::columns::Column;
 use super::fill::fill_table;
-use super::ground::Ground;
+use super::ground::{Ground, Lent, Rules, Stretch};
 use super::scale::Scale;
-use super::walk::{Progress, push_frame, write_form};
-use grammar::Rule;
+use super::spot::Spot;
+use super::walk::{Progress, write_form};
 use grammar::sheet::Sheet;
 
 // A written form's length, and its tree's price.
@@ -24,43 +23,38 @@ pub struct Reading<P> {
 
 // Reads the words off their table.
 fn read_table<S: Scale>(
-    rules: &[Rule],
-    ground: Ground<S::Price>,
+    rules: Rules,
+    ground: &Ground<S::Price>,
     start: usize,
-    stack: &mut [u32],
-    list: &mut [u8],
-    column: &mut [S::Price],
+    stack: &mut [u32; 640],
+    list: &mut [u8; 9984],
+    column: &mut Column<S::Price, 21>,
 ) -> Option<Reading<S::Price>>
-    requires bounds { (start < 32) × (length ground.words.now ≤ 20) × (7392 ≤ length ground.prices.now) × (7392 ≤ length ground.numbers.now) × (640 ≤ length stack.old) × (9984 ≤ length list.old) × (20 < length column.old) × (length rules.now ≤ 128) }
-    requires formed { AllFormed 32 64 rules.now }
-    requires filled { Filled rules.now S.Scale.measure ground.words.now (table S.Scale.measure ground.prices.now ground.numbers.now) (length ground.words.now + 2) (length ground.words.now + 1) }
-    ensures { elim result [ Some d ↦ Cheapest (started rules.now start) S.Scale.measure ground.entry.words.now list.old list.new d.length d.price | None ↦ Unread (started rules.now start) ground.entry.words.now list.old list.new ] }
+    requires start { start < 32 }
+    requires filled { Filled rules.list.now S.Scale.measure ground.now.words.now (shown S.Scale.measure ground.now) (length ground.now.words.now + 2) (length ground.now.words.now + 1) }
+    ensures { elim result [ Some d ↦ Cheapest (started rules.entry.list.now start) S.Scale.measure ground.now.words.now list.old list.new d.length d.price | None ↦ Unread (started rules.entry.list.now start) ground.now.words.now list.old list.new ] }
 {
     let n = ground.words.len();
-    let Some(price) = price_of::<S>(ground.prices, ground.numbers, 0, n, start) else {
-        return None;
-    };
+    let whole = Stretch { ground, i: 0, j: n };
+    let price = whole.price_of(start)?;
     if n == 0 {
         list[0] = 0;
         return Some(Reading { length: 1, price });
     }
-    let first = rule_of(ground.numbers, 0, n, start);
-    list[0] = (first + 1) as u8;
-    push_frame(stack, 0, 0, n, start, 0, 0);
-    let mut marks = [false; 21];
-    let length = write_form::<S>(
-        rules,
-        ground,
-        stack,
-        list,
-        Progress {
-            name: start,
-            height: 1,
-            written: 1,
-        },
-        column,
-        &mut marks,
-    );
+    list[0] = (whole.rule_of(start) + 1) as u8;
+    stack[0] = u32::from(Spot {
+        i: 0,
+        j: n,
+        a: start,
+        d: 0,
+        m: 0,
+    });
+    let from = Progress {
+        name: start,
+        height: 1,
+        written: 1,
+    };
+    let length = write_form::<S>(rules, ground, stack, list, from, column);
     Some(Reading { length, price })
 }
 
@@ -75,22 +69,31 @@ pub fn write_reading<S: Scale>(
     requires { (length words.now ≤ 20) × (8192 ≤ length prices.old) × (8192 ≤ length numbers.old) × (10240 ≤ length list.old) }
     ensures { elim result [ Some d ↦ Cheapest (grammar_of sheet.now) S.Scale.measure words.now list.old list.new d.length d.price | None ↦ Unread (grammar_of sheet.now) words.now list.old list.new ] }
 {
-    let rules = sheet.rules();
-    let start = rules[0].left as usize;
+    let rules = Rules {
+        list: sheet.rules(),
+    };
+    let start = rules.list[0].left as usize;
     let (prices, rest) = prices.split_at_mut(7392);
     let (column, offers) = rest.split_at_mut(21);
     let (numbers, stack) = numbers.split_at_mut(7392);
-    fill_table::<S>(rules, words, prices, numbers, words.len(), column, offers);
-    read_table::<S>(
-        rules,
-        Ground {
-            words,
-            prices,
-            numbers,
-        },
-        start,
-        stack,
-        list,
-        column,
-    )
+    let mut lent = Lent {
+        words,
+        prices,
+        numbers,
+    };
+    let mut column = Column {
+        prices: column,
+        marks: [false; 21],
+    };
+    let mut offers = Column {
+        prices: offers,
+        marks: [false; 128],
+    };
+    fill_table::<S>(rules, &mut lent, &mut column, &mut offers);
+    let ground = lent.ground();
+    let stack = stack.first_chunk_mut().unwrap();
+    let Some(list) = list.first_chunk_mut() else {
+        unreachable!()
+    };
+    read_table::<S>(rules, &ground, start, stack, list, &mut column)
 }

@@ -1,73 +1,15 @@
 // The walk that writes a reading off the table.
-ghost use Rattle.std.specs.Prelude.{◌≡◌, ◌+◌, ◌<◌, ◌≤◌, ◌∷◌, length, take, drop, slice_index_or, slice_set};
-ghost use Rattle.grammar.specs.Grammar.{right};
-ghost use Rattle.grammar.specs.Closure.{AllFormed};
+ghost use Rattle.std.specs.Prelude.{◌≡◌, ◌+◌, ◌<◌, ◌≤◌, length, take};
 ghost use Rattle.readings.specs.inner.Tables.{Recorded};
-ghost use Rattle.readings.specs.inner.Places.{table, packed};
-ghost use Rattle.readings.specs.inner.Stages.{Reads, Unpacked, Stage, Turned, Longer};
+ghost use Rattle.readings.specs.inner.Cells.{shown};
+ghost use Rattle.readings.specs.inner.Stages.{Reads, Stage, Turned, Longer};
 
-use super::cells::{rank_of, rule_of};
+use super::columns::Column;
 use super::ends::find_end;
-use super::ground::{Cell, Ground};
+use super::ground::{Cell, Ground, Rules, Stretch};
 use super::scale::Scale;
-use grammar::{Rule, Symbol};
-
-// The rule's d-th symbol.
-fn symbol_at(rule: &Rule, d: usize) -> Symbol
-    requires { (d < rule.now.len) × (rule.now.len ≤ 8) }
-    ensures is { result ≡ slice_index_or rule.now.symbols d (Symbol.Name 0) }
-    ensures split { drop d (right rule.now) ≡ result ∷ drop (d + 1) (right rule.now) }
-{
-    rule.symbols[d]
-}
-
-// A frame of the walk as one number.
-fn pack(i: usize, j: usize, a: usize, d: usize, m: usize) -> u32
-    requires { (i < 32) × (j < 32) × (a < 32) × (d < 32) × (m < 32) }
-    ensures { result ≡ packed i j a d m }
-{
-    ((((i * 32 + j) * 32 + a) * 32 + d) * 32 + m) as u32
-}
-
-// The walk's next frame: on the stack, in place of the h-th number.
-pub(crate) fn push_frame(
-    stack: &mut [u32],
-    h: usize,
-    i: usize,
-    j: usize,
-    a: usize,
-    d: usize,
-    m: usize,
-)
-    requires { (h < length stack.old) × (i < 32) × (j < 32) × (a < 32) × (d < 32) × (m < 32) }
-    ensures { stack.new ≡ slice_set stack.old h (packed i j a d m) }
-{
-    stack[h] = pack(i, j, a, d, m);
-}
-
-// A frame of the walk: the name a over (i, j), of whose rule d symbols are written, up to m.
-#[derive(Clone, Copy)]
-struct Spot {
-    i: usize,
-    j: usize,
-    a: usize,
-    d: usize,
-    m: usize,
-}
-
-// The frame that the number holds.
-fn unpack(v: u32) -> Spot
-    ensures { Unpacked v result.i result.j result.a result.d result.m }
-{
-    let v = v as usize;
-    Spot {
-        i: v / 1048576,
-        j: v / 32768 % 32,
-        a: v / 1024 % 32,
-        d: v / 32 % 32,
-        m: v % 32,
-    }
-}
+use super::spot::Spot;
+use grammar::Symbol;
 
 // How far the walk is: the name that it reads, the frames on its stack, the numbers written.
 #[derive(Clone, Copy)]
@@ -79,45 +21,60 @@ pub struct Progress {
 
 // A turn of the walk: the frame on top is left, or its next symbol is written.
 fn turn<S: Scale>(
-    rules: &[Rule],
-    ground: Ground<S::Price>,
-    stack: &mut [u32],
-    list: &mut [u8],
+    rules: Rules,
+    ground: &Ground<S::Price>,
+    stack: &mut [u32; 640],
+    list: &mut [u8; 9984],
     mut at: Progress,
-    column: &mut [S::Price],
-    marks: &mut [bool],
+    column: &mut Column<S::Price, 21>,
 ) -> Progress
-    requires bounds { (0 < at.height) × (at.written ≤ length list.old) × (length ground.words.now ≤ 20) × (7392 ≤ length ground.prices.now) × (7392 ≤ length ground.numbers.now) × (640 ≤ length stack.old) × (9984 ≤ length list.old) × (20 < length column.old) × (20 < length marks.old) × (length rules.now ≤ 128) }
-    requires formed { AllFormed 32 64 rules.now }
-    requires recorded { Recorded rules.now S.Scale.measure ground.words.now (table S.Scale.measure ground.prices.now ground.numbers.now) }
-    requires stage { Stage rules.now S.Scale.measure ground.words.now (table S.Scale.measure ground.prices.now ground.numbers.now) at.name stack.old at.height (take at.written list.old) }
-    ensures turned { Turned rules.now S.Scale.measure ground.entry.words.now (table S.Scale.measure ground.entry.prices.now ground.entry.numbers.now) at.name stack.old at.height stack.new result.height (take result.written list.new) }
+    requires bounds { (0 < at.height) × (at.written ≤ 9984) }
+    requires recorded { Recorded rules.list.now S.Scale.measure ground.now.words.now (shown S.Scale.measure ground.now) }
+    requires stage { Stage rules.list.now S.Scale.measure ground.now.words.now (shown S.Scale.measure ground.now) at.name stack.old at.height (take at.written list.old) }
+    ensures turned { Turned rules.entry.list.now S.Scale.measure ground.now.words.now (shown S.Scale.measure ground.now) at.name stack.old at.height stack.new result.height (take result.written list.new) }
     ensures longer { Longer list.old at.written list.new result.written }
     ensures same { result.name ≡ at.name }
 {
     let top = at.height - 1;
-    let Spot { i, j, a, d, m } = unpack(stack[top]);
-    let k = rank_of(ground.numbers, i, j, a);
-    let r = rule_of(ground.numbers, i, j, a);
-    let rule = &rules[r];
-    if d >= rule.len as usize {
+    let Spot { i, j, a, d, m } = Spot::from(stack[top]);
+    let over = Stretch { ground, i, j };
+    let k = over.rank_of(a);
+    let rule = &rules.list[over.rule_of(a)];
+    let right = &rule.symbols[..rule.len as usize];
+    if d >= right.len() {
         at.height = top;
         return at;
     }
-    let x = symbol_at(rule, d);
-    let to = find_end::<S>(ground, Cell { i, j, k }, rule, d, m, column, marks);
-    push_frame(stack, top, i, j, a, d + 1, to);
-    match x {
+    let to = find_end::<S>(&Cell { over, k }, &right[d..], m, column);
+    stack[top] = u32::from(Spot {
+        i,
+        j,
+        a,
+        d: d + 1,
+        m: to,
+    });
+    match right[d] {
         Symbol::Word(_) => at,
+        Symbol::Name(_) if to == m => {
+            list[at.written] = 0;
+            at.written += 1;
+            at
+        }
         Symbol::Name(b) => {
-            if to == m {
-                list[at.written] = 0;
-                at.written += 1;
-                return at;
-            }
-            let below = rule_of(ground.numbers, m, to, b as usize);
-            list[at.written] = (below + 1) as u8;
-            push_frame(stack, at.height, m, to, b as usize, 0, m);
+            let a = b as usize;
+            let below = Stretch {
+                ground,
+                i: m,
+                j: to,
+            };
+            list[at.written] = (below.rule_of(a) + 1) as u8;
+            stack[at.height] = u32::from(Spot {
+                i: m,
+                j: to,
+                a,
+                d: 0,
+                m,
+            });
             at.height += 1;
             at.written += 1;
             at
@@ -127,25 +84,23 @@ fn turn<S: Scale>(
 
 // The walk: writes what is left of the form, and answers the form's length.
 pub(crate) fn write_form<S: Scale>(
-    rules: &[Rule],
-    ground: Ground<S::Price>,
-    stack: &mut [u32],
-    list: &mut [u8],
+    rules: Rules,
+    ground: &Ground<S::Price>,
+    stack: &mut [u32; 640],
+    list: &mut [u8; 9984],
     from: Progress,
-    column: &mut [S::Price],
-    marks: &mut [bool],
+    column: &mut Column<S::Price, 21>,
 ) -> usize
-    requires bounds { (from.written ≤ length list.old) × (length ground.words.now ≤ 20) × (7392 ≤ length ground.prices.now) × (7392 ≤ length ground.numbers.now) × (640 ≤ length stack.old) × (9984 ≤ length list.old) × (20 < length column.old) × (20 < length marks.old) × (length rules.now ≤ 128) }
-    requires formed { AllFormed 32 64 rules.now }
-    requires recorded { Recorded rules.now S.Scale.measure ground.words.now (table S.Scale.measure ground.prices.now ground.numbers.now) }
-    requires stage { Stage rules.now S.Scale.measure ground.words.now (table S.Scale.measure ground.prices.now ground.numbers.now) from.name stack.old from.height (take from.written list.old) }
-    ensures reads { Reads rules.now S.Scale.measure ground.entry.words.now (table S.Scale.measure ground.entry.prices.now ground.entry.numbers.now) from.name (take result list.new) }
+    requires bounds { from.written ≤ 9984 }
+    requires recorded { Recorded rules.list.now S.Scale.measure ground.now.words.now (shown S.Scale.measure ground.now) }
+    requires stage { Stage rules.list.now S.Scale.measure ground.now.words.now (shown S.Scale.measure ground.now) from.name stack.old from.height (take from.written list.old) }
+    ensures reads { Reads rules.entry.list.now S.Scale.measure ground.now.words.now (shown S.Scale.measure ground.now) from.name (take result list.new) }
     ensures longer { Longer list.old from.written list.new result }
     ensures short { result ≤ 9984 }
 {
     let mut at = from;
     while at.height > 0 {
-        at = turn::<S>(rules, ground, stack, list, at, column, marks);
+        at = turn::<S>(rules, ground, stack, list, at, column);
     }
     at.written
 }

@@ -1,12 +1,12 @@
-use Rattle.std.proofs.Common.{ℕ, ◌+◌, ◌<◌, ◌≤◌, drop}
-use Rattle.grammar.specs.Grammar.{right}
-use Rattle.readings.specs.inner.Tables.{CutAt}
-use Rattle.readings.specs.inner.Columns.{marked, Column}
-use Rattle.readings.specs.inner.Places.{table}
+use Rattle.std.proofs.Common.{ℕ, ◌<◌, ◌≤◌, ◌∷◌, List}
+use Rattle.grammar.specs.declared.Symbol.{Symbol}
+use Rattle.readings.specs.inner.Columns.{marked}
+use Rattle.readings.specs.inner.Cells.{CutIn, ColumnIn}
 use Rattle.readings.proofs.cut.prepend.Given as goal
 
 -- from m on the column is as it was, and before m it has one symbol more
 abbrev pub invariant-loop-m : goal.invariant-loop-m
 invariant-loop-m g l =
-    Column g.S.Scale.measure l.ground.words.now (table g.S.Scale.measure l.ground.prices.now l.ground.numbers.now) l.cell.i l.cell.j l.cell.k (drop (l.d + 1) (right l.rule)) l.m (marked g.S.Scale.measure l.column l.marks)
-    × ((n : ℕ) → l.cell.i ≤ n → n < l.m → CutAt g.S.Scale.measure l.ground.words.now (table g.S.Scale.measure l.ground.prices.now l.ground.numbers.now) l.cell.i l.cell.j l.cell.k (drop l.d (right l.rule)) n (marked g.S.Scale.measure l.column l.marks n))
+    (s : List Symbol) → ColumnIn g.S.Scale.measure l.cell s l.cell.over.i (marked g.S.Scale.measure l.initial.column.prices.now l.initial.column.marks)
+    → ColumnIn g.S.Scale.measure l.cell s l.m (marked g.S.Scale.measure l.column.prices.now l.column.marks)
+    × ((n : ℕ) → l.cell.over.i ≤ n → n < l.m → CutIn g.S.Scale.measure l.cell (l.x.symbol ∷ s) n (marked g.S.Scale.measure l.column.prices.now l.column.marks n))

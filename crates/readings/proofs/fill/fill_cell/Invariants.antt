@@ -1,4 +1,4 @@
-use Rattle.std.proofs.Common.{◌≡◌, length}
+use Rattle.std.proofs.Common.{◌≡◌}
 use Rattle.readings.specs.inner.Columns.{marked}
 use Rattle.readings.specs.inner.Candidates.{Offered}
 use Rattle.readings.specs.inner.Filling.{Filling}
@@ -7,6 +7,8 @@ use Rattle.readings.proofs.fill.fill_cell.Given as goal
 
 abbrev pub invariant-loop-k : goal.invariant-loop-k
 invariant-loop-k g l =
-    Filling l.rules g.S.Scale.measure l.words (table g.S.Scale.measure l.prices l.numbers) l.i l.j l.k
-    × Offered l.rules g.S.Scale.measure l.words (table g.S.Scale.measure l.prices l.numbers) l.i l.j l.k (marked g.S.Scale.measure l.offers l.offered)
-    × (length l.offered ≡ 128)
+    record {
+      same : l.lent.words.now ≡ l.initial.lent.words.now;
+      filling : Filling l.rules.list.now g.S.Scale.measure l.initial.lent.words.now (table g.S.Scale.measure l.lent.prices.now l.lent.numbers.now) l.i l.j l.k;
+      gathered : Offered l.rules.list.now g.S.Scale.measure l.initial.lent.words.now (table g.S.Scale.measure l.lent.prices.now l.lent.numbers.now) l.i l.j l.k (marked g.S.Scale.measure l.offers.prices.now l.offers.marks);
+    }

@@ -1,9 +1,11 @@
-use Rattle.std.proofs.Common.{◌≡◌, ◌+◌, length}
+use Rattle.std.proofs.Common.{◌≡◌, ◌+◌}
 use Rattle.readings.specs.inner.Tables.{Filled}
 use Rattle.readings.specs.inner.Places.{table}
 use Rattle.readings.proofs.fill.fill_table.Given as goal
 
 abbrev pub invariant-loop-j : goal.invariant-loop-j
 invariant-loop-j g l =
-    (length l.marks ≡ 21)
-    × Filled l.rules g.S.Scale.measure l.words (table g.S.Scale.measure l.prices l.numbers) (l.j + 1) l.j
+    record {
+      same : l.lent.words.now ≡ l.initial.lent.words.now;
+      filled : Filled l.rules.list.now g.S.Scale.measure l.initial.lent.words.now (table g.S.Scale.measure l.lent.prices.now l.lent.numbers.now) (l.j + 1) l.j;
+    }

@@ -1,44 +1,39 @@
-use Rattle.std.proofs.Common.{◌≡◌, ℕ, true, false, sym, arith}
+use Rattle.std.proofs.Common.{None, refl, arith}
 use Rattle.readings.proofs.Fills.{filling_last, filling_next}
 use Rattle.readings.proofs.Offering.{foremost_best, repriced_none}
 use Rattle.readings.proofs.fill.price_next.Goals as goal
 
-apart : true ≡ false → ⊥
-apart e = let z : ◌≡◌ {A = ℕ} 0 1 = cc in omega arith
+pub returns-in_default-clause-last : goal.returns-in_default-clause-last
+returns-in_default-clause-last g c =
+    λ _. filling_last c.args.rules.list.now g.S.Scale.measure g.met.S.Scale.lawful _ _ _ _ c.args.k 0 None refl
+    (foremost_best c.args.rules.list.now g.S.Scale.measure g.met.S.Scale.lawful _ _ _ _ _ _ _ _ c.requires.gathered c.in_default.ensures) c.requires.filling
 
-pub returns-in_default : goal.returns-in_default
-returns-in_default g c =
-    record {
-      last = λ _. filling_last c.args.rules.now g.S.Scale.measure g.met.S.Scale.lawful _ _ _ _ c.args.cell.k c.cheapest_offer-found.result.rule c.cheapest_offer-found.result.price c.in_default.is
-          (foremost_best c.args.rules.now g.S.Scale.measure g.met.S.Scale.lawful _ _ _ _ _ _ _ _ c.requires.gathered c.cheapest_offer-found.ensures) c.requires.filling;
-      filling = λ e. absurd (apart (sym e));
-      gathered = λ e. absurd (apart (sym e));
-    }
+pub offset_bounds-rules-pick : goal.offset_bounds-rules-pick
+offset_bounds-rules-pick g c = let h = (c.in-Some.ensures.stands c.in-Some.pick.price refl).0 in omega (arith, h)
 
-pub bounds-rules-found : goal.bounds-rules-found
-bounds-rules-found g c = (c.cheapest_offer-found.ensures.stands c.in-Some.p c.in-Some.is).0
+pub bounds-rules-pick : goal.bounds-rules-pick
+bounds-rules-pick g c = (c.in-Some.ensures.stands c.in-Some.pick.price refl).0
 
-pub offset_bounds-rules-found : goal.offset_bounds-rules-found
-offset_bounds-rules-found g c = let h = (c.cheapest_offer-found.ensures.stands c.in-Some.p c.in-Some.is).0 in omega (arith, h)
-
-pub put_price-requires : goal.put_price-requires
-put_price-requires g c =
-    let h = (c.cheapest_offer-found.ensures.stands c.in-Some.p c.in-Some.is).0 in
-    (omega arith, omega arith, (c.requires.formed c.cheapest_offer-found.result.rule h).0, omega arith, omega arith, omega arith, omega arith)
+pub put-requires : goal.put-requires
+put-requires g c =
+    let h = (c.in-Some.ensures.stands c.in-Some.pick.price refl).0 in
+    (omega arith, omega arith, (c.args.rules.formed c.in-Some.pick.rule h).0, omega arith, omega arith)
 
 pub reprice-requires : goal.reprice-requires
-reprice-requires g c = (record {
-  i_le_j = (omega arith, omega arith, omega arith, omega arith, omega arith, omega arith, omega arith, omega arith, omega arith);
-  all_formed = c.requires.formed;
-  repriced = repriced_none g.S.Scale.measure g.met.S.Scale.lawful _ _ _ _ _ _ _ _ _ c.put_price.ensures c.requires.filling.ranked c.args.rules.now _ c.requires.gathered;
-})
+reprice-requires g c = (
+  omega arith,
+  (
+    omega arith,
+    rw (c.ground-ground.ensures.words, c.ground-ground.ensures.prices, c.ground-ground.ensures.numbers, c.put.ensures.words)
+        (repriced_none g.S.Scale.measure g.met.S.Scale.lawful _ _ _ _ _ _ _ _ _ (c.put.ensures.adds g.S.Scale.measure) c.requires.filling.ranked c.args.rules.list.now _ c.requires.gathered),
+  ),
+)
 
-pub returns : goal.returns
-returns g c =
-    let h = (c.cheapest_offer-found.ensures.stands c.in-Some.p c.in-Some.is).0 in
-    record {
-      last = λ e. absurd (apart e);
-      filling = λ _. filling_next c.args.rules.now g.S.Scale.measure g.met.S.Scale.lawful _ _ _ _ c.args.cell.k _ c.cheapest_offer-found.result.rule c.cheapest_offer-found.result.price c.in-Some.p c.in-Some.is (omega arith) (omega arith)
-          (c.requires.formed c.cheapest_offer-found.result.rule h).0 (foremost_best c.args.rules.now g.S.Scale.measure g.met.S.Scale.lawful _ _ _ _ _ _ _ _ c.requires.gathered c.cheapest_offer-found.ensures) c.put_price.ensures c.requires.filling;
-      gathered = λ _. c.reprice.ensures;
-    }
+pub returns-clause-filling : goal.returns-clause-filling
+returns-clause-filling g c =
+    let h = (c.in-Some.ensures.stands c.in-Some.pick.price refl).0 in
+    λ _. filling_next c.args.rules.list.now g.S.Scale.measure g.met.S.Scale.lawful _ _ _ _ c.args.k _ c.in-Some.pick.rule _ c.in-Some.pick.price refl (omega arith) (omega arith)
+    (c.args.rules.formed c.in-Some.pick.rule h).0 (foremost_best c.args.rules.list.now g.S.Scale.measure g.met.S.Scale.lawful _ _ _ _ _ _ _ _ c.requires.gathered c.in-Some.ensures) (c.put.ensures.adds g.S.Scale.measure) c.requires.filling
+
+pub returns-clause-gathered : goal.returns-clause-gathered
+returns-clause-gathered g c = λ _. rw (c.ground-ground.ensures.words, c.ground-ground.ensures.prices, c.ground-ground.ensures.numbers, c.put.ensures.words) at c.reprice.ensures

@@ -1,6 +1,6 @@
 use Rattle.std.proofs.Common.{refl}
 use Rattle.readings.specs.inner.Places.{packed}
-use Rattle.readings.proofs.walk.pack.Goals as goal
+use Rattle.readings.proofs.spot.U32FromSpot.from.Goals as goal
 
 pub returns : goal.returns
 unfolding packed
