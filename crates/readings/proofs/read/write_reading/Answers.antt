@@ -4,7 +4,8 @@ use Rattle.grammar.specs.Closure.{AllFormed}
 use Rattle.grammar.specs.View.{grammar_of}
 use Rattle.readings.specs.Prices.{nth}
 use Rattle.readings.specs.inner.Stages.{started}
-use Rattle.readings.proofs.Sheets.{rules_formed, rules_some}
+use Rattle.grammar.proofs.Views.{rules_formed}
+use Rattle.readings.proofs.Sheets.{rules_some}
 use Rattle.readings.proofs.Readings.{reading_front}
 use Rattle.readings.proofs.read.write_reading.Goals as goal
 
