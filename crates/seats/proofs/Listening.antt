@@ -1,6 +1,8 @@
 -- The words heard at a seat so far, and what one call more gives. Assumes nothing.
 use Rattle.std.proofs.Common.{◌≡◌, ℕ, suc, ◌<◌, List, [], ◌∷◌, length, drop, Some, None, Ok, Err, Option, Result, sym, refl, ap, ◌∙◌, subst, inl, inr, arith}
 use Rattle.sources.specs.declared.source.Heard.{Heard}
+use Rattle.std.specs.Result.{MatchResult, IsErrAnd}
+use Rattle.faults.specs.declared.Fault.{Fault}
 use Rattle.faults.specs.Faults.{Told}
 use Rattle.sources.specs.Meanings.{Meaning, past}
 use Rattle.sources.proofs.First.{at_some, at_none, at_fault}
@@ -52,13 +54,13 @@ module _ (s : Sheet) (m k : Meaning) (n : ℕ) (xs : List ℕ) (so_far : Listeni
       }
       listening_more j (refused i why e x) = let z : ◌≡◌ {A = ℕ} 0 1 = cc in absurd (omega arith)
 
-      pub listening_stops : (f r : Told) → r ≡ retold f h.place → Said s so_far.words h.word (Err f) vs
-          → (us : List ℕ) × HeardOut s m (Err r) us k' × Seat s us ys
-      listening_stops f r tells (added a e x) = let z : ◌≡◌ {A = ℕ} 0 1 = cc in absurd (omega arith)
-      listening_stops f r tells (refused i why e x) =
-          let is : f ≡ fault i (length so_far.words) = cc in
-          let answer : r ≡ fault i h.place = tells ∙ ap (λ y. retold y h.place) is in
-          (vs, record { words = from (Err r) vs k'.words (inr (i, why, ap Err answer, e, refl)); ending = still }, stand)
+      pub listening_stops : (f r : Told) (o : Result ℕ Told) → o ≡ Err r → r ≡ retold f h.place → Said s so_far.words h.word (Err f) vs
+          → (us : List ℕ) × HeardOut s m o us k' × Seat s us ys
+      listening_stops f r o is tells (added a e x) = let z : ◌≡◌ {A = ℕ} 0 1 = cc in absurd (omega arith)
+      listening_stops f r o is tells (refused i why e x) =
+          let told : f ≡ fault i (length so_far.words) = cc in
+          let answer : r ≡ fault i h.place = tells ∙ ap (λ y. retold y h.place) told in
+          (vs, record { words = from o vs k'.words (inr (i, why, is ∙ ap Err answer, e, refl)); ending = still }, stand)
 
   closes : (r : Result ℕ Told) (e : Option Told) → r ≡ counted n e → k ≡ record { words = []; ending = e } → k' ≡ past 1 k
       → (us : List ℕ) × HeardOut s m r us k' × Seat s us xs
@@ -75,3 +77,13 @@ module _ (s : Sheet) (m k : Meaning) (n : ℕ) (xs : List ℕ) (so_far : Listeni
 
   pub listening_faults : (f : Told) (r : Result ℕ Told) → r ≡ Err f → Takes (Err f) k k' → (us : List ℕ) × HeardOut s m r us k' × Seat s us xs
   listening_faults f r tells took = closes r (Some f) tells (at_fault k f took.answer) took.left
+
+-- ---- what `map_err` answers
+
+pub passed_on : {A : Type 0} (r q : Result A Fault) (n : A) (P : Fault → Fault → Type 0) → q ≡ Ok n → MatchResult r (λ x. q ≡ Ok x) (λ e. IsErrAnd q (P e)) → r ≡ Ok n
+passed_on (Ok x) q n P e m = sym m ∙ e
+passed_on (Err f) q n P e m = absurd (subst (λ o. IsErrAnd o (P f)) e m)
+
+pub refused_on : {A : Type 0} (r q : Result A Fault) (f : Fault) (P : Fault → Fault → Type 0) → q ≡ Err f → MatchResult r (λ x. q ≡ Ok x) (λ e. IsErrAnd q (P e)) → (e : Fault) × (r ≡ Err e) × P e f
+refused_on (Ok x) q f P e m = let z : ◌≡◌ {A = ℕ} 0 1 = cc in absurd (omega arith)
+refused_on (Err g) q f P e m = (g, refl, subst (λ o. IsErrAnd o (P g)) e m)

@@ -1,7 +1,9 @@
 -- Laws of lists of which a part is replaced, and of the seats of a hall. Assumes nothing.
-use Rattle.std.proofs.Common.{◌≡◌, ℕ, ◌+◌, ◌-◌, ◌*◌, ◌<◌, ◌≤◌, ◌≢◌, List, ◌++◌, length, take, drop, sym, refl, ap, ◌∙◌, subst, ⊎_elim, arith, take-append-drop, rules}
-use borrow.Rule.Slice.PartMut.{put_mid}
-use Rattle.std.proofs.lemmas.List.{drop-drop, places, same_lists, length-drop, length-append, length-take-le}
+use Rattle.std.proofs.Common.{◌≡◌, ℕ, ◌+◌, ◌-◌, ◌*◌, ◌<◌, ◌≤◌, ◌≢◌, List, ◌++◌, length, take, drop, sym, refl, ap, ◌∙◌, subst, ⊎_elim, arith, take-append-drop, rules, Some, Option}
+use Rattle.std.specs.Array.{IsFirstChunk}
+use Rattle.std.specs.Borrow.{Bor, MutBor}
+use Rattle.std.specs.Option.{MatchOption}
+use Rattle.std.proofs.lemmas.List.{drop-drop, take_all, places, same_lists, length-drop, length-append, length-take-le}
 use Rattle.std.proofs.lemmas.Bool.{cases_order}
 use Rattle.seats.specs.Seats.{replaced, seat, Apart}
 use Rattle.seats.specs.Calls.{Addressed}
@@ -9,9 +11,6 @@ use Rattle.seats.specs.Calls.{Addressed}
 -- the m numbers from position a on
 abbrev part : List ℕ → ℕ → ℕ → List ℕ
 part xs a m = take m (drop a xs)
-
-put_is : (xs ys : List ℕ) (a k : ℕ) → length ys ≡ k → put_mid a k xs ys ≡ replaced xs a ys
-put_is xs ys a k e = ap (λ zs. take a xs ++ (ys ++ zs)) (drop-drop k a xs ∙ ap (λ (n : ℕ). drop (a + n) xs) (sym e))
 
 length_replaced : (xs ys : List ℕ) (a : ℕ) → a + length ys ≤ length xs → length (replaced xs a ys) ≡ length xs
 length_replaced xs ys a h = simp (length-append, length-drop) (let e = length-take-le a xs (omega arith) in omega arith)
@@ -31,17 +30,6 @@ part_back xs a m long =
     let e : drop (a + length (part xs a m)) xs ≡ drop m (drop a xs) = ap (λ (n : ℕ). drop (a + n) xs) long ∙ sym (drop-drop m a xs) in
     sym (take-append-drop a xs) ∙ ap (λ ys. take a xs ++ ys) (sym (take-append-drop m (drop a xs)) ∙ ap (λ ys. part xs a m ++ ys) (sym e))
 
--- what a call leaves that is lent the part, where P holds of the part before and after it; k is the length as the goals have it
-lent_part : (P : List ℕ → List ℕ → Type 0) (xs ys : List ℕ) (a k m : ℕ) → k ≡ m → length ys ≡ k → a + m ≤ length xs → P (part xs a k) ys
-    → P (part xs a m) (part (put_mid a k xs ys) a m) × (length (put_mid a k xs ys) ≡ length xs) × (put_mid a k xs ys ≡ replaced xs a (part (put_mid a k xs ys) a m))
-lent_part P xs ys a k m e f fits p =
-    let put = put_is xs ys a k f in
-    let is : part (put_mid a k xs ys) a m ≡ ys = ap (λ zs. part zs a m) put ∙ part_same xs ys a m (f ∙ e) fits in (
-      subst (λ zs. P (part xs a m) zs) (sym is) (subst (λ (n : ℕ). P (part xs a n) ys) e p),
-      ap length put ∙ length_replaced xs ys a (omega arith),
-      put ∙ ap (λ zs. replaced xs a zs) (sym is),
-    )
-
 -- seat k lies in the hall
 pub seat_fits : (hall : List ℕ) (k : ℕ) → Addressed hall k → 945 * k + 945 ≤ length hall
 seat_fits hall k at = omega (arith, at.0, at.1)
@@ -49,32 +37,37 @@ seat_fits hall k at = omega (arith, at.0, at.1)
 pub seat_long : (hall : List ℕ) (k : ℕ) → Addressed hall k → length (seat hall k) ≡ 945
 seat_long hall k at = length-take-le 945 (drop (945 * k) hall) (simp length-drop (omega (arith, at.0, at.1)))
 
--- a seat's length, as the goals have it where the seat is lent
-abbrev span : ℕ → ℕ
-span k = 945 * k + 945 - 945 * k
-
-span_is : (k : ℕ) → span k ≡ 945
-span_is k = omega arith
-
--- seat k as it is lent, and the hall when it is given back
-abbrev pub loan : List ℕ → ℕ → List ℕ
-loan hall k = part hall (945 * k) (span k)
-
+-- the hall with other numbers at seat k
 abbrev pub given : List ℕ → ℕ → List ℕ → List ℕ
-given hall k ys = put_mid (945 * k) (span k) hall ys
+given hall k ys = replaced hall (945 * k) ys
 
-pub loan_is : (hall : List ℕ) (k : ℕ) → loan hall k ≡ seat hall k
-loan_is hall k = ap (λ (m : ℕ). part hall (945 * k) m) (span_is k)
+-- a hall that was split before seat k, with other numbers in the place of the first 945 of the rest
+pub given_is : (hall front rest ys : List ℕ) (k : ℕ) → front ≡ take (945 * k) hall → rest ≡ drop (945 * k) hall → length ys ≡ 945 → front ++ (ys ++ drop 945 rest) ≡ given hall k ys
+given_is hall front rest ys k e f long =
+    let after : drop 945 rest ≡ drop (945 * k + length ys) hall = ap (drop 945) f ∙ drop-drop 945 (945 * k) hall ∙ ap (λ (n : ℕ). drop (945 * k + n) hall) (sym long) in
+    ap (λ zs. zs ++ (ys ++ drop 945 rest)) e ∙ ap (λ zs. take (945 * k) hall ++ (ys ++ zs)) after
 
-pub loan_long : (hall : List ℕ) (k : ℕ) → Addressed hall k → length (loan hall k) ≡ 945
-loan_long hall k at = ap length (loan_is hall k) ∙ seat_long hall k at
+-- and those 945, which a call of `first_chunk_mut` lends
+pub own_is : (hall rest : List ℕ) (k : ℕ) (r : Option (MutBor (List ℕ))) (own : MutBor (List ℕ)) → rest ≡ drop (945 * k) hall → r ≡ Some own → MatchOption r (length rest < 945) (λ y. IsFirstChunk rest y.now 945) → own.now ≡ seat hall k
+own_is hall rest k r own e f m =
+    let first = subst (λ (o : Option (MutBor (List ℕ))). MatchOption o (length rest < 945) (λ y. IsFirstChunk rest y.now 945)) f m in
+    first.same ∙ ap (take 945) e
+
+-- the same, of a call of `first_chunk` on the rest of the hall
+pub first_is : (hall : List ℕ) (k : ℕ) (r : Option (Bor (List ℕ))) (own : Bor (List ℕ)) → r ≡ Some own
+    → MatchOption r (length (take (length hall - 945 * k) (drop (945 * k) hall)) < 945) (λ y. IsFirstChunk (take (length hall - 945 * k) (drop (945 * k) hall)) y.now 945) → own.now ≡ seat hall k
+first_is hall k r own f m =
+    let rest = take (length hall - 945 * k) (drop (945 * k) hall) in
+    let first = subst (λ (o : Option (Bor (List ℕ))). MatchOption o (length rest < 945) (λ y. IsFirstChunk rest y.now 945)) f m in
+    first.same ∙ ap (take 945) (take_all (length hall - 945 * k) (drop (945 * k) hall) (omega (arith, length-drop (945 * k) hall)))
 
 -- what a call leaves that is lent seat k, where P holds of the seat before and after it
-pub lent : (P : List ℕ → List ℕ → Type 0) (hall ys : List ℕ) (k : ℕ) → Addressed hall k → length ys ≡ length (loan hall k) → P (loan hall k) ys
+pub lent : (P : List ℕ → List ℕ → Type 0) (hall ys : List ℕ) (k : ℕ) → Addressed hall k → length ys ≡ 945 → P (seat hall k) ys
     → P (seat hall k) (seat (given hall k ys) k) × Apart hall k (given hall k ys)
 lent P hall ys k at long p =
-    let x = lent_part P hall ys (945 * k) (span k) 945 (span_is k) (long ∙ loan_long hall k at ∙ sym (span_is k)) (seat_fits hall k at) p in
-    (x.0, (x.1, x.2))
+    let fits = seat_fits hall k at in
+    let is : seat (given hall k ys) k ≡ ys = part_same hall ys (945 * k) 945 long fits in
+    (subst (λ zs. P (seat hall k) zs) (sym is) p, (length_replaced hall ys (945 * k) (omega arith), ap (λ zs. replaced hall (945 * k) zs) (sym is)))
 
 -- another seat is as it was
 pub elsewhere : (hall hall' : List ℕ) (k t : ℕ) → length hall ≡ 3780 → k < 4 → t < 4 → t ≢ k → Apart hall t hall' → seat hall' k ≡ seat hall k

@@ -1,5 +1,6 @@
 -- The contracts of the calls at a hall. Assumes nothing.
-use Rattle.std.specs.Prelude.{◌≡◌, ℕ, ◌+◌, ◌<◌, true, ◌≢◌, ◌⊎◌, ◌↔◌, List, [], ◌∷◌, length, drop, Some, None, Ok, Err, Option, Result, count_ones}
+use Rattle.std.specs.Prelude.{◌≡◌, ℕ, ◌+◌, ◌<◌, true, ◌≢◌, ◌⊎◌, ◌↔◌, List, [], ◌∷◌, length, drop, Ok, Err, Result, count_ones}
+use Rattle.std.specs.Borrow.{Bor}
 use Rattle.faults.specs.declared.Fault.{Fault}
 use Rattle.faults.specs.declared.Refusal.{Refusal}
 use Rattle.faults.specs.declared.Refusal.TheVariants.{NoSuchSeat, BrokenRecord, LeadsNowhere}
@@ -16,10 +17,15 @@ use Rattle.seats.specs.Answers.{fault, Refuses, Does}
 abbrev pub Addressed : List ℕ → ℕ → Type 0
 Addressed hall k = (length hall ≡ 3780) × (k < 4)
 
+-- whether a call at seat k is refused for the seat
+abbrev pub Seated : List ℕ → ℕ → Result (Unit {0}) Fault → Type 0
+Seated hall k (Ok u) = Addressed hall k
+Seated hall k (Err f) = (Addressed hall k → ⊥) × (told f ≡ fault NoSuchSeat 0)
+
 -- whether a call that looks at the record at seat k is refused before it does: for the seat, then for the record
-abbrev pub Barred : Sheet → List ℕ → ℕ → Option Fault → Type 0
-Barred s hall k None = Addressed hall k × Whole s (seat hall k)
-Barred s hall k (Some f) =
+abbrev pub Barred : Sheet → List ℕ → ℕ → Result (Bor (List ℕ)) Fault → Type 0
+Barred s hall k (Ok own) = Addressed hall k × Whole s (seat hall k) × (own.now ≡ seat hall k)
+Barred s hall k (Err f) =
     ((Addressed hall k → ⊥) × (told f ≡ fault NoSuchSeat 0)) ⊎ (Addressed hall k × (Whole s (seat hall k) → ⊥) × (told f ≡ fault BrokenRecord 0))
 
 -- refused, with nothing changed

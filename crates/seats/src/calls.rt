@@ -1,31 +1,36 @@
 // The calls at a hall of four seats, but for hearing a source.
-ghost use Rattle.std.specs.Prelude.{◌≡◌, [], ◌∷◌, length, Decides};
+// Each splits its seat off by itself: a seat that a function returned would not be followed back to the hall.
+ghost use Rattle.std.specs.Prelude.{◌≡◌, [], ◌∷◌, length};
 ghost use Rattle.faults.specs.Faults.{telling};
 ghost use Rattle.seats.specs.Standing.{Kept, open_all, clear_at, say_at, back_at};
-ghost use Rattle.seats.specs.Calls.{Addressed, Barred, Opened, Changed, Anew, Keeps, Looked, Held, Offers};
+ghost use Rattle.seats.specs.Calls.{Seated, Barred, Opened, Changed, Anew, Keeps, Looked, Held, Offers};
 
-use crate::seat::{add, count_held, is_whole, offers, take_off, vacate};
-use faults::{Fault, Layer, Refusal};
+use crate::seat::{add, count_held, is_whole, offers, refused, take_off, vacate};
+use faults::{Fault, Refusal};
 use grammar::sheet::Sheet;
 
-// Whether the hall has its length, and the seat is one of its four.
-pub(crate) fn is_seat(hall: &[u64], seat: usize) -> bool
-    ensures { Decides result (Addressed hall.now seat) }
+// Refuses a hall of another length, and a seat that is none of its four.
+pub(crate) fn find(hall: &[u64], seat: usize) -> Result<(), Fault>
+    ensures { Seated hall.now seat result }
 {
-    hall.len() == 3780 && seat < 4
+    if hall.len() == 3780 && seat < 4 {
+        Ok(())
+    } else {
+        Err(refused(Refusal::NoSuchSeat, 0))
+    }
 }
 
-// Why a call that looks at the record of a seat is refused, if it is.
-pub fn bar(sheet: &Sheet, hall: &[u64], seat: usize) -> Option<Fault>
+// The record of a seat, or why a call that looks at it is refused.
+pub fn record<'a>(sheet: &Sheet, hall: &'a [u64], seat: usize) -> Result<&'a [u64; 945], Fault>
     ensures { Barred sheet.now hall.now seat result }
 {
-    if !is_seat(hall, seat) {
-        return Some(Fault::new(Refusal::NoSuchSeat, 0, Layer::Seat));
+    find(hall, seat)?;
+    let own = hall[945 * seat..].first_chunk().unwrap();
+    if is_whole(sheet, own) {
+        Ok(own)
+    } else {
+        Err(refused(Refusal::BrokenRecord, 0))
     }
-    if is_whole(sheet, &hall[945 * seat..945 * seat + 945]) {
-        return None;
-    }
-    Some(Fault::new(Refusal::BrokenRecord, 0, Layer::Seat))
 }
 
 // Empties all four seats, whatever they held.
@@ -34,11 +39,11 @@ pub fn open(sheet: &Sheet, hall: &mut [u64]) -> Result<usize, Fault>
     ensures first { length hall.old ≡ 3780 → Kept sheet.now (open_all ∷ []) hall.new }
     ensures kept { Keeps sheet.now open_all hall.old hall.new }
 {
-    if hall.len() != 3780 {
-        return Err(Fault::new(Refusal::NoSuchSeat, 0, Layer::Seat));
-    }
+    find(hall, 0)?;
+    // By number: of a hall that `chunks_exact_mut` lent out, only the length is known.
     for k in 0..4 {
-        vacate(sheet, &mut hall[945 * k..945 * k + 945]);
+        let (_, rest) = hall.split_at_mut(945 * k);
+        vacate(sheet, rest.first_chunk_mut().unwrap());
     }
     Ok(0)
 }
@@ -48,10 +53,9 @@ pub fn clear(sheet: &Sheet, hall: &mut [u64], seat: usize) -> Result<usize, Faul
     ensures made { Anew sheet.now seat (clear_at seat) hall.old (telling result) hall.new (clear_at seat) }
     ensures kept { Keeps sheet.now (clear_at seat) hall.old hall.new }
 {
-    if !is_seat(hall, seat) {
-        return Err(Fault::new(Refusal::NoSuchSeat, 0, Layer::Seat));
-    }
-    vacate(sheet, &mut hall[945 * seat..945 * seat + 945]);
+    find(hall, seat)?;
+    let (_, cleared) = hall.split_at_mut(945 * seat);
+    vacate(sheet, cleared.first_chunk_mut().unwrap());
     Ok(0)
 }
 
@@ -60,10 +64,9 @@ pub fn say(sheet: &Sheet, hall: &mut [u64], seat: usize, word: u8) -> Result<usi
     ensures made { Changed sheet.now seat (say_at seat word) hall.old (telling result) hall.new }
     ensures kept { Keeps sheet.now (say_at seat word) hall.old hall.new }
 {
-    match bar(sheet, hall, seat) {
-        Some(fault) => Err(fault),
-        None => add(sheet, &mut hall[945 * seat..945 * seat + 945], word),
-    }
+    record(sheet, hall, seat)?;
+    let (_, rest) = hall.split_at_mut(945 * seat);
+    add(sheet, rest.first_chunk_mut().unwrap(), word)
 }
 
 // Takes the last word off.
@@ -71,28 +74,21 @@ pub fn back(sheet: &Sheet, hall: &mut [u64], seat: usize) -> Result<usize, Fault
     ensures made { Changed sheet.now seat (back_at seat) hall.old (telling result) hall.new }
     ensures kept { Keeps sheet.now (back_at seat) hall.old hall.new }
 {
-    match bar(sheet, hall, seat) {
-        Some(fault) => Err(fault),
-        None => take_off(sheet, &mut hall[945 * seat..945 * seat + 945]),
-    }
+    record(sheet, hall, seat)?;
+    let (_, rest) = hall.split_at_mut(945 * seat);
+    take_off(sheet, rest.first_chunk_mut().unwrap())
 }
 
 // The words with which some command goes on from those that stand, a bit for each.
 pub fn offer(sheet: &Sheet, hall: &[u64], seat: usize) -> Result<u64, Fault>
     ensures { Looked sheet.now seat hall.now (telling result) (Offers sheet.now) }
 {
-    match bar(sheet, hall, seat) {
-        Some(fault) => Err(fault),
-        None => Ok(offers(sheet, &hall[945 * seat..945 * seat + 945])),
-    }
+    Ok(offers(sheet, record(sheet, hall, seat)?))
 }
 
 // How many bits of the seat's table are set.
 pub fn held(sheet: &Sheet, hall: &[u64], seat: usize) -> Result<usize, Fault>
     ensures { Looked sheet.now seat hall.now (telling result) (Held hall.now seat) }
 {
-    match bar(sheet, hall, seat) {
-        Some(fault) => Err(fault),
-        None => Ok(count_held(&hall[945 * seat..945 * seat + 945])),
-    }
+    Ok(count_held(record(sheet, hall, seat)?))
 }

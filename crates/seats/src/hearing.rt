@@ -6,9 +6,9 @@ ghost use Rattle.seats.specs.Standing.{hear_at};
 ghost use Rattle.seats.specs.Answers.{HeardOut};
 ghost use Rattle.seats.specs.Calls.{Anew, Keeps};
 
-use crate::calls::is_seat;
+use crate::calls::find;
 use crate::seat::{add, vacate};
-use faults::{Fault, Layer, Refusal};
+use faults::Fault;
 use grammar::sheet::Sheet;
 use sources::source::Source;
 
@@ -20,17 +20,13 @@ fn moved(fault: Fault, place: usize) -> Fault
 }
 
 // Hears at the seat's own numbers, whatever they were.
-fn listen<S: Source>(sheet: &Sheet, seat: &mut [u64], source: &mut S) -> Result<usize, Fault>
-    requires { length seat.old ≡ 945 }
+fn listen<S: Source>(sheet: &Sheet, seat: &mut [u64; 945], source: &mut S) -> Result<usize, Fault>
     ensures { (vs : List ℕ) × HeardOut sheet.now (S.meaning source.old) (telling result) vs (S.meaning source.new) × Seat sheet.now vs seat.new }
 {
     vacate(sheet, seat);
     let mut n = 0;
     while let Some(heard) = source.next()? {
-        match add(sheet, seat, heard.word) {
-            Ok(count) => n = count,
-            Err(fault) => return Err(moved(fault, heard.place)),
-        }
+        n = add(sheet, seat, heard.word).map_err(|fault| moved(fault, heard.place))?;
     }
     Ok(n)
 }
@@ -45,8 +41,7 @@ pub fn hear<S: Source>(
     ensures made { Anew sheet.now seat (hear_at seat (S.meaning source.old)) hall.old (telling result) hall.new (hear_at seat (S.meaning source.new)) }
     ensures kept { Keeps sheet.now (hear_at seat (S.meaning source.old)) hall.old hall.new }
 {
-    if !is_seat(hall, seat) {
-        return Err(Fault::new(Refusal::NoSuchSeat, 0, Layer::Seat));
-    }
-    listen(sheet, &mut hall[945 * seat..945 * seat + 945], source)
+    find(hall, seat)?;
+    let (_, rest) = hall.split_at_mut(945 * seat);
+    listen(sheet, rest.first_chunk_mut().unwrap(), source)
 }

@@ -11,47 +11,39 @@ use grammar::sheet::Sheet;
 use tables::{fill_column, offer};
 
 // A fault of the seats' layer.
-fn refused(refusal: Refusal, place: usize) -> Fault
+pub(crate) fn refused(refusal: Refusal, place: usize) -> Fault
     ensures { told result ≡ fault refusal place }
 {
     Fault::new(refusal, place, Layer::Seat)
 }
 
 // Whether the count is at most 20 and each counted word is on the sheet.
-pub(crate) fn is_whole(sheet: &Sheet, seat: &[u64]) -> bool
-    requires { length seat.now ≡ 945 }
+pub(crate) fn is_whole(sheet: &Sheet, seat: &[u64; 945]) -> bool
     ensures { Decides result (Whole sheet.now seat.now) }
 {
     // A number of a record may be any of 64 bits, so it is compared as it stands.
-    if seat[0] > 20 {
-        return false;
-    }
-    let count = seat[0] as usize;
     let words = sheet.word_count() as u64;
-    for k in 0..count {
-        if seat[1 + k] >= words {
-            return false;
-        }
-    }
-    true
+    seat[0] <= 20
+        && seat[1..1 + seat[0] as usize]
+            .iter()
+            .all(|word| *word < words)
 }
 
 // No word stands, whatever stood before.
-pub(crate) fn vacate(sheet: &Sheet, seat: &mut [u64])
-    requires { length seat.old ≡ 945 }
+pub(crate) fn vacate(sheet: &Sheet, seat: &mut [u64; 945])
     ensures { Seat sheet.now [] seat.new }
 {
     seat.fill(0);
     // Column 0 comes before the first word, so the word given is not looked at.
-    fill_column(sheet, &mut seat[21..945], 0, 0);
+    fill_column(sheet, seat.last_chunk_mut().unwrap(), 0, 0);
 }
 
 // Adds a word at the end, or refuses it.
-pub(crate) fn add(sheet: &Sheet, seat: &mut [u64], word: u8) -> Result<usize, Fault>
-    requires seat_len { length seat.old ≡ 945 }
-    requires whole { Whole sheet.now seat.old }
+pub(crate) fn add(sheet: &Sheet, seat: &mut [u64; 945], word: u8) -> Result<usize, Fault>
+    requires { Whole sheet.now seat.old }
     ensures said { (ws : List ℕ) → Seat sheet.now ws seat.old → (vs : List ℕ) × Said sheet.now ws word (telling result) vs × Seat sheet.now vs seat.new }
     ensures untouched { (f : Told) → telling result ≡ Err f → seat.new ≡ seat.old }
+    ensures size { length seat.new ≡ 945 }
 {
     let n = seat[0] as usize;
     if word >= sheet.word_count() {
@@ -65,14 +57,13 @@ pub(crate) fn add(sheet: &Sheet, seat: &mut [u64], word: u8) -> Result<usize, Fa
     }
     seat[n + 1] = word as u64;
     seat[0] = n as u64 + 1;
-    fill_column(sheet, &mut seat[21..945], n + 1, word);
+    fill_column(sheet, seat.last_chunk_mut().unwrap(), n + 1, word);
     Ok(n + 1)
 }
 
 // Clears column j of a table.
-fn clear_column(table: &mut [u64], j: usize)
-    requires whole { length table.old ≡ 924 }
-    requires low { j ≤ 20 }
+fn clear_column(table: &mut [u64; 924], j: usize)
+    requires { j ≤ 20 }
     ensures { Cleared table.old table.new j }
 {
     let from = 4 * (j * (j + 1) / 2);
@@ -80,11 +71,11 @@ fn clear_column(table: &mut [u64], j: usize)
 }
 
 // Takes the last word off, or refuses.
-pub(crate) fn take_off(sheet: &Sheet, seat: &mut [u64]) -> Result<usize, Fault>
-    requires seat_len { length seat.old ≡ 945 }
-    requires whole { Whole sheet.now seat.old }
+pub(crate) fn take_off(sheet: &Sheet, seat: &mut [u64; 945]) -> Result<usize, Fault>
+    requires { Whole sheet.now seat.old }
     ensures taken { (ws : List ℕ) → Seat sheet.now ws seat.old → (vs : List ℕ) × Taken ws (telling result) vs × Seat sheet.now vs seat.new }
     ensures untouched { (f : Told) → telling result ≡ Err f → seat.new ≡ seat.old }
+    ensures size { length seat.new ≡ 945 }
 {
     let n = seat[0] as usize;
     if n == 0 {
@@ -92,24 +83,23 @@ pub(crate) fn take_off(sheet: &Sheet, seat: &mut [u64]) -> Result<usize, Fault>
     }
     seat[n] = 0;
     seat[0] = n as u64 - 1;
-    clear_column(&mut seat[21..945], n);
+    clear_column(seat.last_chunk_mut().unwrap(), n);
     Ok(n - 1)
 }
 
 // The words with which some command goes on, a bit for each.
-pub(crate) fn offers(sheet: &Sheet, seat: &[u64]) -> u64
-    requires seat_len { length seat.now ≡ 945 }
-    requires whole { Whole sheet.now seat.now }
+pub(crate) fn offers(sheet: &Sheet, seat: &[u64; 945]) -> u64
+    requires { Whole sheet.now seat.now }
     ensures { (ws : List ℕ) → Seat sheet.now ws seat.now → Offers sheet.now ws result }
 {
-    offer(sheet, &seat[21..945], seat[0] as usize)
+    offer(sheet, seat.last_chunk().unwrap(), seat[0] as usize)
 }
 
 // How many bits of the table are set.
-pub(crate) fn count_held(seat: &[u64]) -> usize
-    requires { length seat.now ≡ 945 }
+pub(crate) fn count_held(seat: &[u64; 945]) -> usize
     ensures { result ≡ ones_of (drop 21 seat.now) }
 {
+    // A loop: of `map` and `sum` over the slice, the bound of the sum was not proved.
     let mut held = 0;
     for number in &seat[21..945] {
         held += number.count_ones() as usize;

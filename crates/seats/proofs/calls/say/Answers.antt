@@ -1,38 +1,44 @@
-use Rattle.std.proofs.Common.{Err, refl}
-use Rattle.faults.specs.Faults.{told, telling}
+use Rattle.std.proofs.Common.{◌≡◌, length, refl}
+use Rattle.faults.specs.Faults.{telling}
+use Rattle.sources.proofs.First.{handed_on}
 use Rattle.seats.specs.Standing.{say_at}
-use Rattle.seats.proofs.Parts.{given, loan_long}
+use Rattle.seats.proofs.Parts.{given_is, own_is}
+use Rattle.seats.proofs.Records.{whole_at}
 use Rattle.seats.proofs.Keeping.{changed_keeps, say_local}
-use Rattle.seats.proofs.SeatLent.{changed_barred, changed_lent, loan_whole}
+use Rattle.seats.proofs.SeatLent.{changed_barred, changed_lent}
 use Rattle.seats.proofs.calls.say.Goals as goal
 
 pub add-requires : goal.add-requires
 add-requires c =
-    let hall = c.args.hall.now in
-    let k = c.args.seat in
-    let free = c.in-None.ensures in
-    (record { seat_len = loan_long hall k free.0; whole = loan_whole c.args.sheet.now k hall free })
+    let split = c.split_at_mut-rest in
+    let is = own_is c.args.hall.now split.result.1.now c.args.seat c.first_chunk_mut.result c.unwrap.result split.ensures.back c.unwrap.ensures c.first_chunk_mut.ensures.cases in
+    whole_at c.args.sheet.now _ _ is c.in_ok-record.ensures.1
 
-pub returns-in-Some : goal.returns-in-Some
-returns-in-Some c =
+pub returns-in_err-record : goal.returns-in_err-record
+returns-in_err-record c =
     let s = c.args.sheet.now in
     let hall = c.args.hall.now in
     let k = c.args.seat in
-    let w = c.args.word in
-    let f = c.in-Some.fault in
-    let made = changed_barred s k hall f c.in-Some.ensures (say_at k w) in
-    record { made = made; kept = changed_keeps s (say_at k w) (say_local s k w) hall (Err (told f)) hall made }
+    let call = say_at k c.args.word in
+    let r = telling c.from_residual.result in
+    let f = c.in_err-record.field-0.0 in
+    let made = changed_barred s k hall f c.in_err-record.ensures call r (handed_on c.from_residual.result f c.from_residual.ensures.1) in
+    record { made = made; kept = changed_keeps s call (say_local s k c.args.word) hall r hall made }
 
-pub returns-in-None : goal.returns-in-None
-returns-in-None c =
+pub returns : goal.returns
+returns c =
     let s = c.args.sheet.now in
     let hall = c.args.hall.now in
     let k = c.args.seat in
-    let w = c.args.word in
+    let call = say_at k c.args.word in
     let r = telling c.add.result in
     let ys = c.add.new.seat in
+    let split = c.split_at_mut-rest in
+    let is = own_is hall split.result.1.now k c.first_chunk_mut.result c.unwrap.result split.ensures.back c.unwrap.ensures c.first_chunk_mut.ensures.cases in
+    let long : length ys ≡ 945 = c.add.ensures.size in
+    let put = given_is hall split.result.0.now split.result.1.now ys k split.ensures.front split.ensures.back long in
     let exact = c.add.ensures.said in
     let made =
-    changed_lent s k hall c.in-None.ensures (say_at k w) r ys c.add.auto.seat
+    changed_lent s k hall c.in_ok-record.field-0 c.in_ok-record.ensures call r c.unwrap.result.now ys _ is long put
     (λ ws stand. let x = exact ws stand in (x.0, (x.1, refl), x.2)) c.add.ensures.untouched in
-    record { made = made; kept = changed_keeps s (say_at k w) (say_local s k w) hall r (given hall k ys) made }
+    record { made = made; kept = changed_keeps s call (say_local s k c.args.word) hall r _ made }

@@ -1,5 +1,5 @@
-use Rattle.std.proofs.Common.{◌≡◌, ℕ, ◌+◌, ◌<◌, List, [], ◌∷◌, ◌++◌, length, get_or, drop, set, Ok, Err, sym, refl, ap, ◌∙◌, arith}
-use Rattle.std.proofs.lemmas.List.{length-drop, length_push, length-set, length-take-le}
+use Rattle.std.proofs.Common.{◌≡◌, ℕ, ◌+◌, ◌<◌, List, [], ◌∷◌, ◌++◌, length, get_or, set, Ok, Err, sym, refl, ap, ◌∙◌, arith}
+use Rattle.std.proofs.lemmas.List.{length_push, length-set}
 use Rattle.faults.specs.declared.Refusal.{Refusal}
 use Rattle.faults.specs.declared.Refusal.TheVariants.{UnlistedWord, Full, LeadsNowhere}
 use Rattle.faults.specs.Faults.{Told, told}
@@ -7,6 +7,7 @@ use Rattle.grammar.specs.declared.sheet.Sheet.{Sheet}
 use Rattle.seats.specs.Seats.{Listed, Seat}
 use Rattle.seats.specs.Answers.{fault, Refuses, unlisted, full, leads_nowhere, Said, added, refused}
 use Rattle.seats.proofs.Bits.{bit_clear, bit_set}
+use Rattle.seats.proofs.TableLent.{lent_is, table_long, back_size}
 use Rattle.seats.proofs.Records.{listed_low, seat_count, seat_added}
 use Rattle.seats.proofs.seat.add.Goals as goal
 
@@ -18,6 +19,7 @@ pub returns-then-word-word_count : goal.returns-then-word-word_count
 returns-then-word-word_count c = record {
   said = λ ws h. left c.args.sheet.now ws c.args.seat.now c.args.word UnlistedWord (told c.refused.result) h (unlisted (λ l. omega arith) refl) c.refused.ensures;
   untouched = λ f e. refl;
+  size = c.told-seat;
 }
 
 pub returns-then-n-eq20 : goal.returns-then-n-eq20
@@ -26,6 +28,7 @@ returns-then-n-eq20 c = record {
       let n = seat_count c.args.sheet.now ws c.args.seat.now h in
       left c.args.sheet.now ws c.args.seat.now c.args.word Full (told c.refused-then-n-eq20.result) h (full (omega arith) (omega arith) refl) c.refused-then-n-eq20.ensures;
   untouched = λ f e. refl;
+  size = c.told-seat;
 }
 
 pub overflow_shr-offers : goal.overflow_shr-offers
@@ -41,36 +44,36 @@ returns-then-offers-word-eq0 c = record {
       (leads_nowhere (omega arith) (omega (arith, c.if-n-eq20.false)) (λ o. bit_clear c.offers.result w c.if-offers-word-eq0.true ((c.offers.ensures ws h w).1 o)) refl)
       c.refused-then-offers-word-eq0.ensures;
   untouched = λ f e. refl;
+  size = c.told-seat;
 }
 
 pub fill_column-requires : goal.fill_column-requires
 fill_column-requires c =
-    let xs = c.args.seat.now in
-    let n = get_or xs 0 0 in
-    let few = c.requires.whole.few in
-    let zs = set (set xs (n + 1) c.args.word) 0 (n + 1) in
-    record {
-      whole = length-take-le 924 (drop 21 zs) (omega (arith, length-drop 21 zs, length-set (set xs (n + 1) c.args.word) 0 (n + 1), length-set xs (n + 1) c.args.word, c.requires.seat_len));
-      low = omega (arith, c.if-n-eq20.false);
-      listed = listed_low c.args.sheet.now c.args.word (omega arith);
-    }
+    let few = c.requires.few in
+    record { low = omega (arith, c.if-n-eq20.false); listed = listed_low c.args.sheet.now c.args.word (omega arith) }
 
 pub returns : goal.returns
-returns c = record {
-  said = λ ws h.
-      let s = c.args.sheet.now in
-      let xs = c.args.seat.now in
-      let w = c.args.word in
-      let n = get_or xs 0 0 in
-      let is = seat_count s ws xs h in
-      let few = h.few in
-      let listed : Listed s w = omega arith in
-      let room : n < 20 = omega (arith, c.if-n-eq20.false) in
-      let long : n + 1 ≡ length (ws ++ (w ∷ [])) = omega (arith, length_push ws w) in
-      let offered = (c.offers.ensures ws h w).0 (bit_set c.offers.result w c.if-offers-word-eq0.false) in (
-        ws ++ (w ∷ []),
-        added (record { listed = listed; room = omega arith; offered = offered }) refl (ap (λ (i : ℕ). Ok i) long),
-        seat_added s ws xs h n w c.fill_column.new.table (sym is) room listed c.fill_column.ensures.exact c.fill_column.ensures.others,
-      );
-  untouched = λ f e. let z : ◌≡◌ {A = ℕ} 0 1 = cc in absurd (omega arith);
-}
+returns c =
+    let s = c.args.sheet.now in
+    let xs = c.args.seat.now in
+    let w = c.args.word in
+    let n = get_or xs 0 0 in
+    let zs = set (set xs (n + 1) w) 0 (n + 1) in
+    let size : length zs ≡ 945 = length-set (set xs (n + 1) w) 0 (n + 1) ∙ length-set xs (n + 1) w ∙ c.told-seat in
+    let table = lent_is zs size c.last_chunk_mut.result c.unwrap.result c.unwrap.ensures c.last_chunk_mut.ensures.cases in
+    let ys = c.fill_column.new.table in
+    record {
+      said = λ ws h.
+          let is = seat_count s ws xs h in
+          let few = h.few in
+          let listed : Listed s w = omega arith in
+          let room : n < 20 = omega (arith, c.if-n-eq20.false) in
+          let long : n + 1 ≡ length (ws ++ (w ∷ [])) = omega (arith, length_push ws w) in
+          let offered = (c.offers.ensures ws h w).0 (bit_set c.offers.result w c.if-offers-word-eq0.false) in (
+            ws ++ (w ∷ []),
+            added (record { listed = listed; room = omega arith; offered = offered }) refl (ap (λ (i : ℕ). Ok i) long),
+            seat_added s ws xs h n w ys (sym is) room listed c.unwrap.result.now table c.fill_column.ensures.exact c.fill_column.ensures.others,
+          );
+      untouched = λ f e. let z : ◌≡◌ {A = ℕ} 0 1 = cc in absurd (omega arith);
+      size = back_size zs size ys (table_long zs size c.unwrap.result.now ys table c.fill_column.ensures.others.size);
+    }

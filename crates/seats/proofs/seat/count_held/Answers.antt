@@ -2,11 +2,11 @@ use Rattle.std.proofs.Common.{◌≡◌, ◌+◌, ◌^◌, ◌<◌, get_or, take
 use lib.Count.{ones, ones-le}
 use Rattle.std.proofs.lemmas.List.{at_drop_more, at_drop_all}
 use Rattle.seats.specs.Calls.{ones_of}
-use Rattle.seats.proofs.TableLent.{lent_is}
+use Rattle.seats.proofs.TableLent.{all_of}
 use Rattle.seats.proofs.seat.count_held.Goals as goal
 
 pub loop-number-init : goal.loop-number-init
-loop-number-init c = let e = ap ones_of (lent_is c.args.seat.now c.requires) in (omega arith, omega arith)
+loop-number-init c = let e = ap ones_of (all_of c.args.seat.now c.told-seat) in (omega arith, omega arith)
 
 pub overflow_add-held : goal.overflow_add-held
 overflow_add-held c =

@@ -1,7 +1,7 @@
 use Rattle.std.proofs.Common.{ℕ, List, get_or, sym, subst}
 use Rattle.grammar.specs.View.{grammar_of}
 use Rattle.tables.specs.Columns.{Column}
-use Rattle.seats.proofs.TableLent.{lent_is}
+use Rattle.seats.proofs.TableLent.{shown_is}
 use Rattle.seats.proofs.Records.{seat_count}
 use Rattle.seats.proofs.seat.offers.Goals as goal
 
@@ -10,4 +10,5 @@ returns c = λ ws h w.
     let s = c.args.sheet.now in
     let xs = c.args.seat.now in
     let n = seat_count s ws xs h in
-    c.offer.ensures.exact ws w n (subst (λ (t : List ℕ). Column (grammar_of s) ws t (get_or xs 0 0)) (sym (lent_is xs c.requires.seat_len)) (h.table (get_or xs 0 0) c.requires.whole.few))
+    let table = shown_is xs c.told-seat c.last_chunk.result c.unwrap.result c.unwrap.ensures c.last_chunk.ensures.cases in
+    c.offer.ensures.exact ws w n (subst (λ (t : List ℕ). Column (grammar_of s) ws t (get_or xs 0 0)) (sym table) (h.table (get_or xs 0 0) c.requires.few))
