@@ -9,6 +9,7 @@ use Rattle.grammar.specs.declared.sheet.Sheet.{Sheet}
 use Rattle.grammar.specs.Grammar.{Grammar}
 use Rattle.grammar.specs.Limits.{text}
 use Rattle.grammar.specs.View.{grammar_of, words_in}
+use Rattle.grammar.proofs.Views.{words_whole}
 use Rattle.tables.specs.Columns.{Column, Next, Beside}
 use Rattle.seats.specs.Seats.{Listed, Seat, Whole}
 use Rattle.seats.specs.inner.Cleared.{Cleared}
@@ -18,7 +19,7 @@ use Rattle.seats.proofs.Columns.{getD_zeros, columns_empty, columns_next, column
 
 -- a sheet has at most 64 words
 pub listed_low : (s : Sheet) (w : ℕ) → Listed s w → w < 64
-listed_low s w l = omega (arith, length-map (take s.word_count s.words) text, length-take s.word_count s.words, s.counts.3)
+listed_low s w l = omega (arith, words_whole s, s.draft.words.fits)
 
 -- the table
 abbrev lent : List ℕ → List ℕ
