@@ -1,8 +1,9 @@
 -- The line for a message, from what each call promises. Assumes nothing.
-use Rattle.std.proofs.Common.{◌≡◌, ℕ, ◌≤◌, List, ◌++◌, length, take, drop, IfOk, Ok, Err, Result, refl, ap, ◌∙◌, subst, arith}
+use Rattle.std.proofs.Common.{◌≡◌, ℕ, ◌≤◌, List, ◌++◌, length, take, drop, IfOk, IsErrAnd, Ok, Err, Result, ap, ◌∙◌, subst, arith}
 use lib.Seq.{take-append_seam}
+use Rattle.std.proofs.lemmas.Result.{err_from_is_err_and}
 use Rattle.faults.specs.declared.Fault.{Fault}
-use Rattle.faults.specs.Faults.{telling}
+use Rattle.faults.specs.Faults.{told, telling}
 use Rattle.grammar.specs.declared.sheet.Sheet.{Sheet}
 use Rattle.grammar.specs.View.{grammar_of, rules_of}
 use Rattle.sources.specs.Meanings.{Meaning}
@@ -14,10 +15,11 @@ use Rattle.readings.specs.Prices.{price, form}
 use Rattle.readings.specs.Cheapest.{Cheapest}
 use Rattle.reader.specs.Reads.{Lent, Reads}
 use Rattle.reader.specs.Reads as reads
-use Rattle.answers.specs.Lines.{read_line}
+use Rattle.answers.specs.Lines.{read_line, refused_line}
 use Rattle.replies.specs.Replies.{Reply, Least}
 use Rattle.replies.specs.Replies as replies
-use Rattle.replies.specs.inner.Answering.{Pointed, Worsted, ByPoints, ByWorst, Answer, no_command, reading, HeardAnswer, stopped, answered}
+use Rattle.replies.specs.declared.answer.Answer.{Answer}
+use Rattle.replies.specs.inner.Answering.{Best, ReadBy, AnswerLine, no_command, reading, line_of}
 
 -- what holds of a result made, said another way
 pub made_so : {X Y : Type 0} (r : Result X Y) (P Q : X → Type 0) → ((x : X) → P x → Q x) → IfOk r P → IfOk r Q
@@ -28,50 +30,44 @@ least_of : {P : Type 0} (s : Sheet) (S : Scale P) (ws before after : List ℕ) (
 least_of s S ws before after n c best other =
     subst (λ k. NoDearer S k (price (rules_of s) S other.0)) best.costs (best.least other)
 
-pointed : (s : Sheet) (ws before after : List ℕ) (n c : ℕ) → Cheapest (grammar_of s) points ws before after n c → Pointed s ws after n c
-pointed s ws before after n c best =
+best_of : {P : Type 0} (s : Sheet) (S : Scale P) (ws before after : List ℕ) (d : Reading P) → Cheapest (grammar_of s) S ws before after d.length d.price → Best s S ws after d
+best_of s S ws before after d best =
     let f = form best.derivation.0 in
+    let n = d.length in
     record {
       derivation = best.derivation;
       costs = best.costs;
-      least = least_of s points ws before after n c best;
+      least = least_of s S ws before after n d.price best;
       short = best.short;
       written = ap (λ xs. take n xs) best.list ∙ ap (λ k. take k (f ++ drop n before)) best.long ∙ take-append_seam f (drop n before);
     }
 
-worsted : (s : Sheet) (ws before after : List ℕ) (n c : ℕ) → Cheapest (grammar_of s) worst ws before after n c → Worsted s ws c
-worsted s ws before after n c best =
-    record { derivation = best.derivation; costs = best.costs; least = least_of s worst ws before after n c best }
-
-pub read_by_points : (s : Sheet) (ws : List ℕ) (b b' : Lent ℕ) (r : Result (Reading ℕ) Fault) → Reads s points ws b (telling r) b' → ByPoints s ws b'.list r
-read_by_points s ws b b' (Ok d) (reads.reading e is best) =
+pub read_by_scale : {P : Type 0} (s : Sheet) (S : Scale P) (ws : List ℕ) (b b' : Lent P) (r : Result (Reading P) Fault) → Reads s S ws b (telling r) b' → ReadBy s S ws b'.list r
+read_by_scale {P} s S ws b b' (Ok d) (reads.reading e is best) =
     let same : e ≡ d = cc in
-    pointed s ws b.list b'.list d.length d.price (subst (λ (x : Reading ℕ). Cheapest (grammar_of s) points ws b.list b'.list x.length x.price) same best)
-read_by_points s ws b b' (Ok d) (reads.no_command none refused) = let x = refused.0 in let z : ◌≡◌ {A = ℕ} 0 1 = cc in absurd (omega arith)
-read_by_points s ws b b' (Err f) (reads.reading e is best) = let z : ◌≡◌ {A = ℕ} 0 1 = cc in absurd (omega arith)
-read_by_points s ws b b' (Err f) (reads.no_command none refused) = let x = refused.0 in (none, (cc))
+    best_of s S ws b.list b'.list d (subst (λ (x : Reading P). Cheapest (grammar_of s) S ws b.list b'.list x.length x.price) same best)
+read_by_scale s S ws b b' (Ok d) (reads.no_command none refused) = let x = refused.0 in let z : ◌≡◌ {A = ℕ} 0 1 = cc in absurd (omega arith)
+read_by_scale s S ws b b' (Err f) (reads.reading e is best) = let z : ◌≡◌ {A = ℕ} 0 1 = cc in absurd (omega arith)
+read_by_scale s S ws b b' (Err f) (reads.no_command none refused) = let x = refused.0 in (none, (cc))
 
-pub read_by_worst : (s : Sheet) (ws : List ℕ) (b b' : Lent ℕ) (r : Result (Reading ℕ) Fault) → Reads s worst ws b (telling r) b' → ByWorst s ws r
-read_by_worst s ws b b' (Ok d) (reads.reading e is best) =
-    let same : e ≡ d = cc in
-    worsted s ws b.list b'.list d.length d.price (subst (λ (x : Reading ℕ). Cheapest (grammar_of s) worst ws b.list b'.list x.length x.price) same best)
-read_by_worst s ws b b' (Ok d) (reads.no_command none refused) = let x = refused.0 in let z : ◌≡◌ {A = ℕ} 0 1 = cc in absurd (omega arith)
-read_by_worst s ws b b' (Err f) (reads.reading e is best) = let z : ◌≡◌ {A = ℕ} 0 1 = cc in absurd (omega arith)
-read_by_worst s ws b b' (Err f) (reads.no_command none refused) = let x = refused.0 in (none, (cc))
+pub reading_answer : (s : Sheet) (ws list list' : List ℕ) (w p : Reading ℕ) → Best s worst ws list' w → Best s points ws list p → AnswerLine s ws (read_line p.price w.price (take p.length list))
+reading_answer s ws list list' w p dear best =
+    reading best.derivation dear.derivation best.least dear.least
+    (ap (λ k. read_line k w.price (take p.length list)) best.costs
+    ∙ ap (λ k. read_line (price (rules_of s) points best.derivation.0) k (take p.length list)) dear.costs
+    ∙ ap (λ k. read_line (price (rules_of s) points best.derivation.0) (price (rules_of s) worst dear.derivation.0) k) best.written)
 
-pub reading_answer : (s : Sheet) (ws list written : List ℕ) (n c v : ℕ) (before after : List ℕ) → Pointed s ws list n c → Worsted s ws v → written ≡ take n list → after ≡ before ++ read_line c v written → Answer s ws before after
-reading_answer s ws list written n c v before after p w cut e =
-    reading p.derivation w.derivation p.least w.least
-    (e ∙ ap (λ k. before ++ read_line k v written) p.costs ∙ ap (λ k. before ++ read_line (price (rules_of s) points p.derivation.0) k written) w.costs
-    ∙ ap (λ k. before ++ read_line (price (rules_of s) points p.derivation.0) (price (rules_of s) worst w.derivation.0) k) (cut ∙ p.written))
+module _ (s : Sheet) (message : List ℕ) (heard_of : Meaning) (given : (length message ≤ 512) × (heard_of ≡ piled s message)) where
+  told_reply : (line : List ℕ) (n : ℕ) (vs : List ℕ) (m : Meaning) → HeardOut s (piled s message) (Ok n) vs m → AnswerLine s vs line → Reply s message line
+  told_reply line n vs m heard (no_command none e) = replies.no_command given.0 n vs m heard none e
+  told_reply line n vs m heard (reading p w lp lw e) = replies.reading given.0 n vs m heard p w lp lw e
 
-abbrev pub RepliesTo : Sheet → List ℕ → List ℕ → List ℕ → Type 0
-RepliesTo s message before after = (line : List ℕ) × Reply s message line × (after ≡ before ++ line)
+  -- all was heard, and the words were answered
+  pub answer_reply : (line : List ℕ) (n : ℕ) (vs : List ℕ) (m : Meaning) → HeardOut s heard_of (Ok n) vs m → AnswerLine s vs line → Reply s message line
+  answer_reply line n vs m heard a = told_reply line n vs m (subst (λ x. HeardOut s x (Ok n) vs m) given.1 heard) a
 
-answer_reply : (s : Sheet) (message : List ℕ) (before after : List ℕ) → length message ≤ 512 → (n : ℕ) (vs : List ℕ) (m : Meaning) → HeardOut s (piled s message) (Ok n) vs m → Answer s vs before after → RepliesTo s message before after
-answer_reply s message before after few n vs m heard (no_command none e) = (_, replies.no_command few n vs m heard none refl, e)
-answer_reply s message before after few n vs m heard (reading p w lp lw e) = (_, replies.reading few n vs m heard p w lp lw refl, e)
-
-pub heard_reply : (s : Sheet) (message : List ℕ) (before after : List ℕ) → length message ≤ 512 → HeardAnswer s (piled s message) before after → RepliesTo s message before after
-heard_reply s message before after few (stopped t vs m heard e) = (_, replies.stopped few t vs m heard refl, e)
-heard_reply s message before after few (answered n vs m heard a) = answer_reply s message before after few n vs m heard a
+  -- the hearing stopped, and its fault was handed on
+  pub stopped_reply : (list : List ℕ) (r : Result Answer Fault) (f : Fault) (vs : List ℕ) (m : Meaning) → HeardOut s heard_of (Err (told f)) vs m → IsErrAnd r (λ y. y ≡ f) → Reply s message (line_of list r)
+  stopped_reply list r f vs m heard handed =
+      let is = err_from_is_err_and {Q = λ y. y ≡ f} r handed in
+      replies.stopped given.0 (told f) vs m (subst (λ x. HeardOut s x (Err (told f)) vs m) given.1 heard) (ap (line_of list) is.1 ∙ ap (λ y. refused_line (told y).number (told y).place) is.2)

@@ -5,11 +5,11 @@ ghost use Rattle.answers.specs.Lines.{refused_line};
 
 use answers::lines::push_refused;
 use faults::Fault;
-use std::alloc::{AllocError, Global};
+use std::alloc::AllocError;
 
 // The line has the number and the place; the layer is not written.
-pub fn push_fault(heap: Global, out: &mut Vec<u8>, fault: Fault) -> Result<(), AllocError>
+pub fn push_fault(out: &mut Vec<u8>, fault: Fault) -> Result<(), AllocError>
     ensures { OnOk result (out.new.items ≡ out.old.items ++ refused_line (told fault).number (told fault).place) }
 {
-    push_refused(heap, out, fault.refusal.number(), fault.place)
+    push_refused(out, fault.refusal.number(), fault.place)
 }

@@ -13,46 +13,41 @@ use answers::lines::push_refused;
 use faults::Refusal;
 use grammar::sheet::Sheet;
 use sheets::load::load;
-use std::alloc::{AllocError, Global};
+use std::alloc::AllocError;
 
 // The longest input.
 const LONGEST: usize = 32768;
 
 // The line of an input that is too long.
-fn push_too_long(heap: Global, out: &mut Vec<u8>) -> Result<(), AllocError>
+fn push_too_long(out: &mut Vec<u8>) -> Result<(), AllocError>
     ensures { OnOk result (out.new.items ≡ out.old.items ++ refused_line (number_of SheetTooLong) 0) }
 {
-    push_refused(heap, out, Refusal::SheetTooLong.number(), 0)
+    push_refused(out, Refusal::SheetTooLong.number(), 0)
 }
 
 // The lines of the messages, in their order.
-fn push_replies(
-    heap: Global,
-    sheet: &Sheet,
-    messages: &[u8],
-    out: &mut Vec<u8>,
-) -> Result<(), AllocError>
+fn push_replies(sheet: &Sheet, messages: &[u8], out: &mut Vec<u8>) -> Result<(), AllocError>
     ensures { OnOk result (Replied sheet.now messages.now out.old.items out.new.items) }
 {
     let mut rest = messages;
     while let Some((message, after)) = next_message(rest) {
-        reply(heap, sheet, message, out)?;
+        reply(sheet, message, out)?;
         rest = after;
     }
     Ok(())
 }
 
 // A refused sheet has one line, and no message is then answered.
-pub fn run(heap: Global, input: &[u8], out: &mut Vec<u8>) -> Result<(), AllocError>
+pub fn run(input: &[u8], out: &mut Vec<u8>) -> Result<(), AllocError>
     ensures { OnOk result ((output : List ℕ) × Output input.now output × (out.new.items ≡ out.old.items ++ output)) }
 {
     if input.len() > LONGEST {
-        return push_too_long(heap, out);
+        return push_too_long(out);
     }
     let (text, messages) = split_input(input);
     let mut sheet = Sheet::blank();
     match load(text, &mut sheet) {
-        Ok(()) => push_replies(heap, &sheet, messages, out),
-        Err(fault) => push_fault(heap, out, fault),
+        Ok(()) => push_replies(&sheet, messages, out),
+        Err(fault) => push_fault(out, fault),
     }
 }

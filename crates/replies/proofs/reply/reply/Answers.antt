@@ -1,14 +1,8 @@
-use Rattle.std.proofs.Common.{vec_items, subst}
-use Rattle.replies.specs.inner.Answering.{HeardAnswer}
-use Rattle.replies.proofs.Wordings.{made_so, heard_reply}
+use Rattle.replies.proofs.Wordings.{made_so}
 use Rattle.replies.proofs.reply.reply.Goals as goal
 
 pub returns-in-Ok : goal.returns-in-Ok
-returns-in-Ok c =
-    let got = c.in-Ok.ensures in
-    let s = c.args.sheet.now in
-    let before = vec_items c.args.out.now in
-    let after = vec_items c.push_heard.new.out in
-    made_so c.push_heard.result _ _
-    (λ _ heard. heard_reply s c.args.message.now before after got.0 (subst (λ m. HeardAnswer s m before after) got.1 heard))
-    c.push_heard.ensures
+returns-in-Ok c = made_so c.push_read.result _ _ (λ _ e. (_, c.in-Ok.ensures, e)) c.push_read.ensures
+
+pub returns-in-Err : goal.returns-in-Err
+returns-in-Err c = made_so c.push_fault.result _ _ (λ _ e. (_, c.in-Err.ensures, e)) c.push_fault.ensures
