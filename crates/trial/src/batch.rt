@@ -48,36 +48,24 @@ impl Case {
         Ok(())
     }
 
-    fn answer_message(&mut self, text: &str) -> Result<(), AllocError> {
-        let message = decoded(self.heap, text)?;
-        let seat = self.heard % 4;
-        let answer = hear_message(
-            &self.sheet,
-            self.hall.as_mut_slice(),
-            seat,
-            message.as_slice(),
-        );
-        self.answer_hearing(answer)
-    }
-
-    fn answer_codes(&mut self, text: &str) -> Result<(), AllocError> {
-        let numbers = decoded(self.heap, text)?;
-        let seat = self.heard % 4;
-        let answer = hear_codes(
-            &self.sheet,
-            self.hall.as_mut_slice(),
-            seat,
-            numbers.as_slice(),
-        );
-        self.answer_hearing(answer)
-    }
-
     // The four seats hear in turn.
-    fn answer_hearing(&mut self, answer: Result<usize, Fault>) -> Result<(), AllocError> {
+    fn answer_hearing<F>(&mut self, text: &str, hear: F) -> Result<(), AllocError>
+    where
+        F: FnOnce(&Sheet, &mut [u64], usize, &[u8]) -> Result<usize, Fault>,
+        requires { F.IsAlwaysCallable hear }
+    {
+        let bytes = decoded(self.heap, text)?;
+        let seat = self.heard % 4;
+        let answer = hear(
+            &self.sheet,
+            self.hall.as_mut_slice(),
+            seat,
+            bytes.as_slice(),
+        );
         let view = View {
             sheet: &self.sheet,
             hall: self.hall.as_slice(),
-            seat: self.heard % 4,
+            seat,
         };
         push_heard(self.heap, &mut self.found, view, answer)?;
         self.heard = self.heard.wrapping_add(1);
@@ -86,19 +74,21 @@ impl Case {
 
     // What is loaded or heard is copied and answered; the answers written after it are only kept.
     fn take_line(&mut self, line: &str) -> Result<(), AllocError> {
-        write!(self.written, "{line}\n")?;
+        writeln!(self.written, "{line}")?;
         match line.split_once(' ') {
             Some(("sheet", text)) => {
-                write!(self.found, "{line}\n")?;
+                writeln!(self.found, "{line}")?;
                 self.answer_sheet(text)
             }
             Some(("message", text)) => {
-                write!(self.found, "{line}\n")?;
-                self.answer_message(text)
+                writeln!(self.found, "{line}")?;
+                self.answer_hearing(text, |sheet, hall, seat, message| {
+                    hear_message(sheet, hall, seat, message)
+                })
             }
             Some(("codes", text)) => {
-                write!(self.found, "{line}\n")?;
-                self.answer_codes(text)
+                writeln!(self.found, "{line}")?;
+                self.answer_hearing(text, hear_codes)
             }
             _ => Ok(()),
         }

@@ -1,13 +1,6 @@
 // Bytes from a line: a backslash and two hexadecimal digits are one byte, any other byte is itself.
 use std::alloc::{AllocError, Global};
 
-#[derive(Clone, Copy)]
-enum State {
-    Plain,
-    High,
-    Low(u8),
-}
-
 // The value of a hexadecimal digit, and 0 of any other byte.
 fn digit(b: u8) -> u8 {
     match b {
@@ -17,24 +10,21 @@ fn digit(b: u8) -> u8 {
     }
 }
 
+// A backslash with fewer than two bytes after it ends the line.
 pub(crate) fn decoded(heap: Global, line: &str) -> Result<Vec<u8>, AllocError> {
     let mut bytes = Vec::new(heap);
-    let mut state = State::Plain;
-    for b in line.bytes() {
-        match state {
-            State::Plain => {
-                if b == b'\\' {
-                    state = State::High;
-                } else {
-                    bytes.push(b)?;
-                }
+    let mut rest = line.as_bytes();
+    loop {
+        match rest {
+            [b'\\', high, low, after @ ..] => {
+                bytes.push(digit(*high).wrapping_mul(16).wrapping_add(digit(*low)))?;
+                rest = after;
             }
-            State::High => state = State::Low(digit(b)),
-            State::Low(high) => {
-                bytes.push(high.wrapping_mul(16).wrapping_add(digit(b)))?;
-                state = State::Plain;
+            [] | [b'\\', ..] => return Ok(bytes),
+            [b, after @ ..] => {
+                bytes.push(*b)?;
+                rest = after;
             }
         }
     }
-    Ok(bytes)
 }

@@ -2,6 +2,7 @@
 use grammar::sheet::Sheet;
 use grammar::{Rule, Symbol};
 use std::alloc::{AllocError, Global};
+use std::ops::Add;
 
 // A price on both scales.
 #[derive(Clone, Copy)]
@@ -18,13 +19,6 @@ impl Price {
         }
     }
 
-    fn join(self, more: Price) -> Price {
-        Price {
-            points: self.points.saturating_add(more.points),
-            worst: self.worst.max(more.worst),
-        }
-    }
-
     // The cheaper on each scale.
     fn lower(self, other: Price) -> Price {
         Price {
@@ -34,30 +28,38 @@ impl Price {
     }
 }
 
-// The price of yielding nothing by the rule, where the prices of its names are known.
-fn price_of_nothing(rule: &Rule, empties: &[Option<Price>]) -> Option<Price> {
-    let mut price = Price::of(rule.weight);
-    for symbol in rule.symbols.iter().take(rule.len as usize) {
-        match *symbol {
-            Symbol::Name(name) => match empties.get(name as usize).copied() {
-                Some(Some(part)) => price = price.join(part),
-                _ => return None,
-            },
-            Symbol::Word(_) => return None,
+// What two parts cost together.
+impl Add for Price {
+    type Output = Price;
+
+    fn add(self, more: Price) -> Price {
+        Price {
+            points: self.points.saturating_add(more.points),
+            worst: self.worst.max(more.worst),
         }
     }
-    Some(price)
+}
+
+// The first symbols of a rule.
+fn right(rule: &Rule) -> &[Symbol] {
+    rule.symbols.get(..rule.len as usize).unwrap_or(&[])
+}
+
+// The price of yielding nothing by the rule, where the prices of its names are known.
+fn price_of_nothing(rule: &Rule, empties: &[Option<Price>]) -> Option<Price> {
+    right(rule)
+        .iter()
+        .try_fold(Price::of(rule.weight), |price, symbol| match *symbol {
+            Symbol::Name(name) => Some(price + empties.get(name as usize).copied().flatten()?),
+            Symbol::Word(_) => None,
+        })
 }
 
 fn lower_all(sheet: &Sheet, empties: &mut [Option<Price>]) {
     for rule in sheet.rules() {
-        if let Some(found) = price_of_nothing(rule, empties) {
-            if let Some(known) = empties.get_mut(rule.left as usize) {
-                *known = match *known {
-                    Some(price) => Some(price.lower(found)),
-                    None => Some(found),
-                };
-            }
+        let found = price_of_nothing(rule, empties);
+        if let (Some(found), Some(known)) = (found, empties.get_mut(rule.left as usize)) {
+            *known = Some(known.map_or(found, |price| price.lower(found)));
         }
     }
 }
@@ -77,15 +79,13 @@ pub(crate) fn prices_of_nothing(
 // Takes words off the stack as long as they are the words that stand next; none where they are not.
 fn past_words<'a>(stack: &mut Vec<Symbol>, standing: &'a [u64]) -> Option<&'a [u64]> {
     let mut rest = standing;
-    for _ in 0..stack.len() {
-        match (stack.last().copied(), rest) {
-            (Some(Symbol::Word(word)), [next, more @ ..]) if *next == u64::from(word) => {
-                let _ = stack.pop();
-                rest = more;
-            }
-            (Some(Symbol::Word(_)), _) => return None,
-            _ => return Some(rest),
+    while let Some(Symbol::Word(word)) = stack.last().copied() {
+        let (next, more) = rest.split_first()?;
+        if *next != u64::from(word) {
+            return None;
         }
+        let _ = stack.pop();
+        rest = more;
     }
     Some(rest)
 }
@@ -105,9 +105,7 @@ fn take_number(
     }
     match sheet.rules().get(number as usize - 1) {
         Some(rule) if rule.left == name => {
-            for symbol in rule.symbols.iter().take(rule.len as usize).rev() {
-                stack.push(*symbol)?;
-            }
+            stack.extend(right(rule).iter().rev())?;
             Ok(Some(Price::of(rule.weight)))
         }
         _ => Ok(None),
@@ -126,17 +124,14 @@ pub(crate) fn price_of_form(
     let mut rest = standing;
     let mut price = Price::of(0);
     for number in form {
-        match take_number(sheet, empties.as_slice(), &mut stack, *number)? {
-            Some(part) => price = price.join(part),
-            None => return Ok(None),
-        }
-        match past_words(&mut stack, rest) {
-            Some(more) => rest = more,
-            None => return Ok(None),
-        }
+        let Some(part) = take_number(sheet, empties.as_slice(), &mut stack, *number)? else {
+            return Ok(None);
+        };
+        let Some(more) = past_words(&mut stack, rest) else {
+            return Ok(None);
+        };
+        price = price + part;
+        rest = more;
     }
-    if stack.is_empty() && rest.is_empty() {
-        return Ok(Some(price));
-    }
-    Ok(None)
+    Ok((stack.is_empty() && rest.is_empty()).then_some(price))
 }

@@ -2,113 +2,75 @@
 use super::forms::Price;
 use super::sheet_lines::push_fault;
 use super::views::View;
-use faults::Fault;
 use reader::read::read;
-use readings::scale::{One, Plain, Points, Worst};
+use readings::scale::{Plain, Points, Scale, Worst};
 use std::alloc::{AllocError, Global};
 
-#[derive(Clone, Copy)]
-enum Measure {
-    Points,
-    Worst,
-    Plain,
-}
-
-impl Measure {
-    fn title(self) -> &'static str {
-        match self {
-            Measure::Points => "points",
-            Measure::Worst => "worst",
-            Measure::Plain => "plain",
-        }
-    }
-
-    // The plain scale's one price counts as 0.
-    fn part(self, price: Price) -> u32 {
-        match self {
-            Measure::Points => price.points,
-            Measure::Worst => u32::from(price.worst),
-            Measure::Plain => 0,
-        }
-    }
-
-    // The form's length and the price.
-    fn read(self, view: View<'_>, list: &mut [u8]) -> Result<(usize, u32), Fault> {
-        match self {
-            Measure::Points => read_points(view, list),
-            Measure::Worst => read_worst(view, list),
-            Measure::Plain => read_plain(view, list),
-        }
-    }
-}
-
-fn read_points(view: View<'_>, list: &mut [u8]) -> Result<(usize, u32), Fault> {
-    let mut prices = [0u32; 8192];
-    let mut numbers = [0u32; 8192];
-    let reading = read::<Points>(
-        view.sheet,
-        view.hall,
-        view.seat,
-        list,
-        &mut prices,
-        &mut numbers,
-    )?;
-    Ok((reading.length, reading.price))
-}
-
-fn read_worst(view: View<'_>, list: &mut [u8]) -> Result<(usize, u32), Fault> {
-    let mut prices = [0u16; 8192];
-    let mut numbers = [0u32; 8192];
-    let reading = read::<Worst>(
-        view.sheet,
-        view.hall,
-        view.seat,
-        list,
-        &mut prices,
-        &mut numbers,
-    )?;
-    Ok((reading.length, u32::from(reading.price)))
-}
-
-fn read_plain(view: View<'_>, list: &mut [u8]) -> Result<(usize, u32), Fault> {
-    let mut prices = [One; 8192];
-    let mut numbers = [0u32; 8192];
-    let reading = read::<Plain>(
-        view.sheet,
-        view.hall,
-        view.seat,
-        list,
-        &mut prices,
-        &mut numbers,
-    )?;
-    Ok((reading.length, 0))
-}
-
-fn push_reading(
+// The number told of a price, and of what a form costs on the scale.
+fn push_reading<C: Scale, T: FnOnce(C::Price) -> u32, P: FnOnce(Price) -> u32>(
     heap: Global,
     out: &mut String,
     view: View<'_>,
-    measure: Measure,
-) -> Result<(), AllocError> {
+    prices: &mut [C::Price],
+    title: &str,
+    told: T,
+    part: P,
+) -> Result<(), AllocError>
+    requires told { T.IsAlwaysCallable told }
+    requires part { P.IsAlwaysCallable part }
+{
     let mut list = [0u8; 10240];
-    match measure.read(view, &mut list) {
+    let mut numbers = [0u32; 8192];
+    match read::<C>(
+        view.sheet,
+        view.hall,
+        view.seat,
+        &mut list,
+        prices,
+        &mut numbers,
+    ) {
         Err(fault) => push_fault(out, fault),
-        Ok((length, price)) => {
-            write!(out, "{} {price} form ", measure.title())?;
-            match view.form_price(heap, &list, length) {
-                Some(cost) => write!(out, "{}\n", measure.part(cost)),
-                None => write!(out, "wrong\n"),
+        Ok(reading) => {
+            write!(out, "{title} {} form ", told(reading.price))?;
+            match view.form_price(heap, &list, reading.length) {
+                Some(cost) => writeln!(out, "{}", part(cost)),
+                None => writeln!(out, "wrong"),
             }
         }
     }
 }
 
+// The plain scale's one price counts as 0.
 pub(crate) fn push_readings(
     heap: Global,
     out: &mut String,
     view: View<'_>,
 ) -> Result<(), AllocError> {
-    push_reading(heap, out, view, Measure::Points)?;
-    push_reading(heap, out, view, Measure::Worst)?;
-    push_reading(heap, out, view, Measure::Plain)
+    push_reading::<Points, _, _>(
+        heap,
+        out,
+        view,
+        &mut [Points::unit(); 8192],
+        "points",
+        |price| price,
+        |cost| cost.points,
+    )?;
+    push_reading::<Worst, _, _>(
+        heap,
+        out,
+        view,
+        &mut [Worst::unit(); 8192],
+        "worst",
+        u32::from,
+        |cost| u32::from(cost.worst),
+    )?;
+    push_reading::<Plain, _, _>(
+        heap,
+        out,
+        view,
+        &mut [Plain::unit(); 8192],
+        "plain",
+        |_| 0,
+        |_| 0,
+    )
 }

@@ -18,7 +18,7 @@ fn push_words(out: &mut String, words: &[u64]) -> Result<(), AllocError> {
     for word in words {
         write!(out, " {word}")?;
     }
-    write!(out, "\n")
+    writeln!(out)
 }
 
 // The numbers of the table that are not 0, by their positions.
@@ -29,7 +29,7 @@ fn push_table(out: &mut String, table: &[u64]) -> Result<(), AllocError> {
             write!(out, " {position}:{:x}", *number)?;
         }
     }
-    write!(out, "\n")
+    writeln!(out)
 }
 
 fn push_held(out: &mut String, view: View<'_>) -> Result<(), AllocError> {
@@ -38,14 +38,14 @@ fn push_held(out: &mut String, view: View<'_>) -> Result<(), AllocError> {
         Err(fault) => push_fault(out, fault)?,
     }
     match offer(view.sheet, view.hall, view.seat) {
-        Ok(words) => write!(out, "offer {words}\n"),
+        Ok(words) => writeln!(out, "offer {words}"),
         Err(fault) => push_fault(out, fault),
     }
 }
 
 fn push_answer(out: &mut String, answer: Result<usize, Fault>) -> Result<(), AllocError> {
     match answer {
-        Ok(count) => write!(out, "heard {count}\n"),
+        Ok(count) => writeln!(out, "heard {count}"),
         Err(fault) => push_fault(out, fault),
     }
 }

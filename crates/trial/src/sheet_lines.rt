@@ -8,7 +8,7 @@ pub(crate) fn push_fault(out: &mut String, fault: Fault) -> Result<(), AllocErro
     let number = fault.refusal.number();
     let place = fault.place;
     let layer = fault.layer.number();
-    write!(out, "refused {number} {place} {layer}\n")
+    writeln!(out, "refused {number} {place} {layer}")
 }
 
 fn push_spelling(out: &mut String, spelling: &Spelling) -> Result<(), AllocError> {
@@ -24,7 +24,7 @@ fn push_spellings(out: &mut String, title: &str, spellings: &[Spelling]) -> Resu
     for spelling in spellings {
         push_spelling(out, spelling)?;
     }
-    write!(out, "\n")
+    writeln!(out)
 }
 
 fn push_rule(out: &mut String, rule: &Rule) -> Result<(), AllocError> {
@@ -35,7 +35,7 @@ fn push_rule(out: &mut String, rule: &Rule) -> Result<(), AllocError> {
             Symbol::Word(word) => write!(out, " w{word}")?,
         }
     }
-    write!(out, "\n")
+    writeln!(out)
 }
 
 fn push_rules(out: &mut String, sheet: &Sheet) -> Result<(), AllocError> {
@@ -47,20 +47,16 @@ fn push_rules(out: &mut String, sheet: &Sheet) -> Result<(), AllocError> {
 
 fn push_aliases(out: &mut String, sheet: &Sheet) -> Result<(), AllocError> {
     for alias in sheet.aliases() {
-        write!(out, "alias {} {}\n", alias.said, alias.meant)?;
+        writeln!(out, "alias {} {}", alias.said, alias.meant)?;
     }
     Ok(())
 }
 
 // A bit for each name that can yield nothing.
 fn nullable_bits(sheet: &Sheet) -> u32 {
-    let mut bits = 0u32;
-    for name in 0..32u8 {
-        if sheet.is_nullable(name) {
-            bits |= 1 << name;
-        }
-    }
-    bits
+    (0..32u8)
+        .filter(|name| sheet.is_nullable(*name))
+        .fold(0, |bits, name| bits | 1u32.wrapping_shl(u32::from(name)))
 }
 
 pub(crate) fn push_sheet(out: &mut String, sheet: &Sheet) -> Result<(), AllocError> {
@@ -68,9 +64,9 @@ pub(crate) fn push_sheet(out: &mut String, sheet: &Sheet) -> Result<(), AllocErr
     push_spellings(out, "words", sheet.words())?;
     push_rules(out, sheet)?;
     push_aliases(out, sheet)?;
-    write!(
+    writeln!(
         out,
-        "fillers {} nullable {}\n",
+        "fillers {} nullable {}",
         sheet.fillers(),
         nullable_bits(sheet)
     )

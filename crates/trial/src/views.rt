@@ -28,11 +28,8 @@ impl<'a> View<'a> {
 
     // What the form on the list costs by the rules it names, where it is the form of a derivation.
     pub(crate) fn form_price(self, heap: Global, list: &[u8], length: usize) -> Option<Price> {
-        match list.get(0..length) {
-            Some(form) => price_of_form(heap, self.sheet, self.words(), form)
-                .ok()
-                .flatten(),
-            None => None,
-        }
+        price_of_form(heap, self.sheet, self.words(), list.get(..length)?)
+            .ok()
+            .flatten()
     }
 }
