@@ -1,7 +1,7 @@
 -- Sheets that one text means keep the same halls, and hear the same. Assumes nothing.
 use Rattle.std.proofs.Common.{◌≡◌, ℕ, ◌<◌, ◌⊎◌, List, [], ◌∷◌, ◌++◌, length, get_or, drop, sym, ap, ◌∙◌, subst, inl, inr, ⊎_elim}
 use Rattle.grammar.specs.declared.sheet.Sheet.{Sheet}
-use Rattle.grammar.specs.View.{grammar_of, words_in, aliases_in, Alike}
+use Rattle.grammar.specs.View.{grammar_of, words_in, aliases_in, fillers_in, Alike}
 use Rattle.sheets.proofs.OneSheet.{one_sheet}
 use Rattle.sources.specs.declared.source.Heard.{Heard}
 use Rattle.sources.specs.Meanings.{renamed, without}
@@ -80,5 +80,5 @@ pub one_hearing : OneHearing
 one_hearing text s t p q message =
     let alike = one_sheet text s t p q in
     ap (λ f. without f (renamed (aliases_in s) (spoken (words_in s) 0 message))) alike.fillers
-    ∙ ap (λ pairs. without t.fillers (renamed pairs (spoken (words_in s) 0 message))) alike.aliases
-    ∙ ap (λ ws. without t.fillers (renamed (aliases_in t) (spoken ws 0 message))) alike.words
+    ∙ ap (λ pairs. without (fillers_in t) (renamed pairs (spoken (words_in s) 0 message))) alike.aliases
+    ∙ ap (λ ws. without (fillers_in t) (renamed (aliases_in t) (spoken ws 0 message))) alike.words

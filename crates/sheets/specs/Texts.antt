@@ -13,7 +13,7 @@ use Rattle.grammar.specs.declared.sheet.Sheet.{Sheet}
 use Rattle.grammar.specs.Grammar.{right}
 use Rattle.grammar.specs.Bits.{has}
 use Rattle.grammar.specs.Closure.{AllFormed, LowestTreeless}
-use Rattle.grammar.specs.View.{names_in, words_in, rules_of, aliases_in, Alike}
+use Rattle.grammar.specs.View.{names_in, words_in, rules_of, aliases_in, fillers_in, Alike}
 use Rattle.sheets.specs.Lines.{Spelled, name, word, Line, written, Well}
 use Rattle.sheets.specs.Spellings.{member, names_of, words_of}
 use Rattle.sheets.specs.Limits.{Production, Renaming, productions, renamings, fillers_of, Within, Second, Accepted}
@@ -50,7 +50,7 @@ pub record Says (ls : List Line) (s : Sheet) : Type 0 where
   pub words : words_in s ≡ words_of ls
   pub rules : Numbered ls (rules_of s)
   pub aliases : map (renaming (words_of ls)) (aliases_in s) ≡ renamings ls
-  pub fillers : (w : ℕ) → w < length (words_of ls) → has s.draft.fillers w ≡ member (slice_index_or (words_of ls) w []) (fillers_of ls)
+  pub fillers : (w : ℕ) → w < length (words_of ls) → has (fillers_in s) w ≡ member (slice_index_or (words_of ls) w []) (fillers_of ls)
 
 -- what a text means: its lines, said by the sheet
 abbrev pub Loaded : List ℕ → Sheet → Type 0

@@ -5,7 +5,7 @@ use Rattle.std.proofs.lemmas.Bool.{and_parts, eqb-true, false≢true}
 use Rattle.faults.specs.Faults.{Told}
 use Rattle.grammar.specs.declared.sheet.Sheet.{Sheet}
 use Rattle.grammar.specs.Trees.{Row, yield, Command}
-use Rattle.grammar.specs.View.{Plain, grammar_of, words_in, aliases_in}
+use Rattle.grammar.specs.View.{Plain, grammar_of, words_in, aliases_in, fillers_in}
 use Rattle.tables.specs.Table.{Offered}
 use Rattle.sources.specs.Meanings.{Meaning, renamed, without}
 use Rattle.sources.specs.Messages.{spoken}
@@ -38,7 +38,7 @@ meant_so said s message h =
     let f = h.fillers in
     let a = h.aliases in
     let w = h.words in
-    let e : without s.fillers (renamed (aliases_in s) (spoken (words_in s) 0 message)) ≡ meant said message = rw (f, a, w) refl in
+    let e : without (fillers_in s) (renamed (aliases_in s) (spoken (words_in s) 0 message)) ≡ meant said message = rw (f, a, w) refl in
     e
 
 -- ---- certificates

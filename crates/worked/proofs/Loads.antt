@@ -15,9 +15,8 @@ use Rattle.grammar.specs.Bits.{has}
 use Rattle.grammar.specs.Closure.{AllFormed, HasTree}
 use Rattle.grammar.specs.Grammar.{no_rule, number, limit, Formed}
 use Rattle.grammar.specs.Trees.{Row, end, word, tree}
-use Rattle.grammar.specs.View.{Plain, plain, rules_of, aliases_in}
+use Rattle.grammar.specs.View.{Plain, plain, rules_of, aliases_in, fillers_in}
 use Rattle.grammar.proofs.BitSets.{same_set, has_none}
-use Rattle.grammar.proofs.Fronts.{formed_front}
 use Rattle.grammar.proofs.Plains.{tree_plain}
 use Rattle.grammar.proofs.Views.{names_whole, words_whole}
 use Rattle.sheets.specs.Lines.{Line}
@@ -119,9 +118,9 @@ loaded_holds said s h = record {
   aliases = no_map _ (aliases_in s) (h.aliases ∙ no_aliases said);
   fillers =
       let k = length (words_of (lines_said said)) in
-      let fits : s.fillers < 2 ^ k = subst (λ (n : ℕ). s.fillers < 2 ^ n) (sym (words_whole s) ∙ ap length h.words) s.filled in
-      let off : (w : ℕ) → w < k → has s.fillers w ≡ has 0 w = λ w l. h.fillers w l ∙ ap (member (get_or (words_of (lines_said said)) w [])) (no_fillers said) ∙ sym (has_none w) in
-      same_set k s.fillers 0 fits (pow_pos k) off;
+      let fits : fillers_in s < 2 ^ k = subst (λ (n : ℕ). fillers_in s < 2 ^ n) (sym (words_whole s) ∙ ap length h.words) s.draft.filled in
+      let off : (w : ℕ) → w < k → has (fillers_in s) w ≡ has 0 w = λ w l. h.fillers w l ∙ ap (member (get_or (words_of (lines_said said)) w [])) (no_fillers said) ∙ sym (has_none w) in
+      same_set k (fillers_in s) 0 fits (pow_pos k) off;
 }
 
 -- ---- and what a sheet that says so is loaded from
@@ -143,7 +142,7 @@ holds_loaded said s h = record {
   names = h.names ∙ sym (names_are said);
   words = h.words ∙ sym (words_are said);
   rules = record {
-    formed = subst₂ (λ (a b : ℕ). AllFormed a b (rules_of s)) (sym (names_whole s) ∙ ap length (h.names ∙ sym (names_are said))) (sym (words_whole s) ∙ ap length (h.words ∙ sym (words_are said))) (formed_front s.name_count s.word_count s.rule_count s.rules s.lefts s.short s.rights);
+    formed = subst₂ (λ (a b : ℕ). AllFormed a b (rules_of s)) (sym (names_whole s) ∙ ap length (h.names ∙ sym (names_are said))) (sym (words_whole s) ∙ ap length (h.words ∙ sym (words_are said))) s.draft.formed;
     spelled_out = spelled_rules _ _ (rules_of s) ∙ ap (map (spelled_rule _ _)) h.rules ∙ spelled_said said;
   };
   aliases = ap (map (renaming (words_of (lines_said said)))) h.aliases ∙ sym (no_aliases said);

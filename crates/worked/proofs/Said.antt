@@ -1,7 +1,7 @@
 -- What the two sheets say, as data.
 use Rattle.std.proofs.Common.{◌≡◌, ℕ, List, [], ◌∷◌, map, codes}
 use Rattle.grammar.specs.declared.sheet.Sheet.{Sheet}
-use Rattle.grammar.specs.View.{Plain, plain, rules_of, names_in, words_in, aliases_in}
+use Rattle.grammar.specs.View.{Plain, plain, rules_of, names_in, words_in, aliases_in, fillers_in}
 use Rattle.sheets.specs.Lines.{Spelled, name, word, Line, rule}
 use Rattle.worked.specs.Lathe.{opt, lathe_rules, lathe_names, lathe_words}
 use Rattle.worked.specs.Findings.{Said, blank, lathe_sheet, Says}
@@ -30,7 +30,7 @@ pub record Holds (said : Said) (s : Sheet) : Type 0 where
   pub names : names_in s ≡ names_said said
   pub words : words_in s ≡ words_said said
   pub aliases : aliases_in s ≡ []
-  pub fillers : s.fillers ≡ 0
+  pub fillers : fillers_in s ≡ 0
 
 pub says_so : (said : Said) (s : Sheet) → Says said s → Holds said s
 says_so blank s h = record { rules = h.rules; names = h.names; words = h.words; aliases = h.aliases; fillers = h.fillers }

@@ -3,7 +3,7 @@ use Rattle.std.specs.Prelude.{◌≡◌, ℕ, List, [], ◌∷◌, map, codes}
 use Rattle.grammar.specs.declared.Symbol.{Symbol}
 use Rattle.grammar.specs.declared.Symbol.TheVariants.{Name, Word}
 use Rattle.grammar.specs.declared.sheet.Sheet.{Sheet}
-use Rattle.grammar.specs.View.{Plain, plain, rules_of, names_in, words_in, aliases_in}
+use Rattle.grammar.specs.View.{Plain, plain, rules_of, names_in, words_in, aliases_in, fillers_in}
 
 -- a rule by its weight, its left name and its symbols
 abbrev pub rule : ℕ → ℕ → List Symbol → Plain
@@ -52,4 +52,4 @@ pub record HoldTheLathe (s : Sheet) : Type 0 where
   pub names : names_in s ≡ lathe_names
   pub words : words_in s ≡ lathe_words
   pub aliases : aliases_in s ≡ []
-  pub fillers : s.fillers ≡ 0
+  pub fillers : fillers_in s ≡ 0
