@@ -1,5 +1,5 @@
 -- What a sheet's invariant says of its rules. Assumes nothing.
-use Rattle.std.proofs.Common.{◌<◌, ◌≤◌, length, arith}
+use Rattle.std.proofs.Common.{◌<◌, length, arith}
 use Rattle.grammar.specs.declared.sheet.Sheet.{Sheet}
 use Rattle.grammar.specs.Closure.{AllFormed}
 use Rattle.grammar.specs.View.{rules_of}
@@ -10,6 +10,3 @@ rules_formed s = formed s.name_count s.word_count s.rule_count s.rules s.counts.
 
 pub rules_some : (s : Sheet) → 0 < length (rules_of s)
 rules_some s = omega (arith, s.whole, s.counts.0)
-
-pub rules_few : (s : Sheet) → length (rules_of s) ≤ 128
-rules_few s = omega (arith, s.whole, s.counts.1)
