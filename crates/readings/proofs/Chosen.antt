@@ -6,12 +6,9 @@ use Rattle.readings.specs.inner.Least.{Least, cheaper, joined}
 use Rattle.readings.specs.inner.Cuts.{Cuts, CutsBelow, EndsAt, Choosing}
 use Rattle.readings.specs.inner.Tables.{Table, child, Chosen}
 use Rattle.readings.proofs.Least.{none_some, least_one}
-use Rattle.readings.proofs.Cuts.{cut_none, cut_more, cut_all}
+use Rattle.readings.proofs.Cuts.{cut_more, cut_all}
 
 module _ {P : Type 0} (S : Scale P) (L : Laws S) (ch : Symbol → ℕ → ℕ → Option P) (x : Symbol) (s : List Symbol) (m j : ℕ) where
-  pub choosing_none : (to : ℕ) → Choosing S ch x s m j m to None
-  choosing_none to = record { least = cut_none S L ch x s m j; ends = λ p e. absurd (none_some refl e) }
-
   ends_here : (n : ℕ) (first read : Option P) (p : P) → m ≤ n → first ≡ ch x m n → Least S (Cuts S ch s n j) read → joined S first read ≡ Some p → EndsAt S ch x s m j n p
   ends_here n None read p h e l f = absurd (none_some refl f)
   ends_here n (Some a) None p h e l f = absurd (none_some refl f)

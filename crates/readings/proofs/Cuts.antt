@@ -1,9 +1,7 @@
 -- The cheapest cut, symbol by symbol from the right and stretch by stretch. Assumes nothing.
-use Rattle.std.proofs.Common.{◌≡◌, ℕ, suc, ◌+◌, ◌-◌, ◌<◌, ◌≤◌, Bool, true, false, cond, eqb, ◌⊎◌, List, [], ◌∷◌, length, get_or, take, drop, set, Some, None, Option, sym, refl, ap, ◌∙◌, subst, inl, inr, add-one, arith, length-take, length-take-le, drop-cons, get_or-set_other, get_or-take, get_or-drop, get_or-set_same}
+use Rattle.std.proofs.Common.{◌≡◌, ℕ, suc, ◌+◌, ◌-◌, ◌<◌, ◌≤◌, Bool, ◌⊎◌, List, [], ◌∷◌, length, get_or, take, drop, Some, Option, sym, refl, ◌∙◌, subst, inl, inr, add-one, arith, length-take, get_or-take, get_or-drop}
 use mathlib.Core.Logic.{by_cases}
 use native.Mathlib.Decide.{dec_lt, ℕ_discrete}
-use lib.Seq.{slice_empty}
-use Rattle.std.proofs.lemmas.Bool.Decides.{Decides-eqb}
 use Rattle.grammar.specs.declared.Symbol.{Symbol}
 use Rattle.grammar.specs.declared.Rule.{Rule}
 use Rattle.grammar.specs.declared.Symbol.TheVariants.{Name}
@@ -13,7 +11,7 @@ use Rattle.readings.specs.inner.Least.{Least, cheaper, joined}
 use Rattle.readings.specs.inner.Cuts.{Cuts, CutsBelow}
 use Rattle.readings.specs.inner.Columns.{marked, Written}
 use Rattle.readings.specs.inner.Cells.{AllCounted}
-use Rattle.readings.proofs.Least.{no_dearer_refl, least_none, least_same, least_either, least_joined}
+use Rattle.readings.proofs.Least.{least_same, least_either, least_joined}
 
 module _ {P : Type 0} (S : Scale P) (child : Symbol → ℕ → ℕ → Option P) where
   -- a cut goes from left to right
@@ -22,18 +20,6 @@ module _ {P : Type 0} (S : Scale P) (child : Symbol → ℕ → ℕ → Option P
   cuts_ordered (x ∷ s) m n q c = let h = cuts_ordered s c.to n c.tail c.rest in omega (arith, c.ordered)
 
 module _ {P : Type 0} (S : Scale P) (L : Laws S) (child : Symbol → ℕ → ℕ → Option P) where
-  -- no symbols: nothing is left to cut
-  pub cut_end : (m n : ℕ) → Least S (Cuts S child [] m n) (cond (eqb m n) (Some S.unit) None)
-  cut_end m n = go (eqb m n) refl
-    where
-      go : (b : Bool) → eqb m n ≡ b → Least S (Cuts S child [] m n) (cond b (Some S.unit) None)
-      go true e = record { lower = λ q c. rw c.1 (no_dearer_refl S L S.unit); reached = ((Decides-eqb m n).0 e, refl) }
-      go false e = least_none S L _ (λ q c. let z = (Decides-eqb m n).1 c.0 in let w : ◌≡◌ {A = ℕ} 0 1 = cc in omega arith)
-
-  -- before the first stretch: none ends before its start
-  pub cut_none : (x : Symbol) (s : List Symbol) (m n : ℕ) → Least S (CutsBelow S child x s m n m) None
-  cut_none x s m n = least_none S L _ (λ q c. omega (arith, c.0.ordered, c.1))
-
   -- one more end of the first stretch
   pub cut_more : (x : Symbol) (s : List Symbol) (m n k : ℕ) (o o' : Option P) → m ≤ k
       → Least S (CutsBelow S child x s m n k) o → Least S (Cuts S child s k n) o'
@@ -66,10 +52,6 @@ module _ {P : Type 0} (S : Scale P) (L : Laws S) (child : Symbol → ℕ → ℕ
   cut_last x s m n k best first read both next q h e f d l l' =
       let w : k + 1 ≡ suc n = omega arith in
       cut_all x s m n next (subst (λ (z : ℕ). Least S (CutsBelow S child x s m n z) next) w (cut_turn x s m n k best first read both next h e f d l l'))
-
--- the symbols from the d-th on: the d-th and those after it
-pub right_cons : (p : Rule) (d : ℕ) (x : Symbol) → d < p.len → p.len ≤ length p.symbols → drop d (right p) ≡ get_or p.symbols d x ∷ drop (suc d) (right p)
-right_cons p d x h l = drop-cons (right p) d x (rw (length-take-le p.len p.symbols l) h) ∙ ap (λ (y : Symbol). y ∷ drop (suc d) (right p)) (get_or-take p.len p.symbols d x h)
 
 -- the symbols of a rule's right side are counted, and so are those from the d-th on
 counted : (p : Rule) → Formed 32 64 p → (d : ℕ) → d < length (right p) → Counted 32 64 (get_or (right p) d (Name 0))
@@ -108,12 +90,3 @@ pub column_more : {P : Type 0} {S : Scale P} {f : ℕ → Option P} {ps ps' : Li
     → ((m : ℕ) → i ≤ m → m < n → marked S ps bs m ≡ f m) → (m : ℕ) → i ≤ m → m < n + 1 → marked S ps' bs' m ≡ f m
 column_more {S} {f} {ps} {ps'} {bs} {bs'} i n w e old m x y =
     by_cases (ℕ_discrete m n) (λ z. subst (λ (z : ℕ). marked S ps' bs' z ≡ f z) (sym z) (w.here ∙ e)) (λ z. w.other m z ∙ old m x (omega arith))
-
--- one 0 more
-pub zeros_more : (l : List ℕ) (n : ℕ) → n < length l → ((m : ℕ) → m < n → get_or l m 0 ≡ 0) → (m : ℕ) → m < n + 1 → get_or (set l n 0) m 0 ≡ 0
-zeros_more l n h old m y = by_cases (ℕ_discrete m n) (λ z. rw z (get_or-set_same l n 0 0 h)) (λ z. get_or-set_other l n m 0 0 z ∙ old m (omega arith))
-
--- behind the last symbol
-pub column_end : {P : Type 0} (S : Scale P) (L : Laws S) (child : Symbol → ℕ → ℕ → Option P) (p : Rule) (n j : ℕ) (o : Option P) → o ≡ cond (eqb n j) (Some S.unit) None
-    → Least S (Cuts S child (drop p.len (right p)) n j) o
-column_end S L child p n j o e = rw (e, slice_empty p.len p.symbols) (cut_end S L child n j)

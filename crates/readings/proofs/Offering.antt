@@ -1,5 +1,5 @@
 -- What rules offer a cell's names: gathered, priced anew, and the cheapest of them. Assumes nothing.
-use Rattle.std.proofs.Common.{◌≡◌, ℕ, suc, ◌+◌, ◌<◌, Bool, ◌⊎◌, List, [], ◌∷◌, length, get_or, Some, None, Option, sym, refl, ap, ◌∙◌, subst, subst₂, inl, inr, add-one, arith, length-take, get_or-take}
+use Rattle.std.proofs.Common.{◌≡◌, ℕ, suc, ◌+◌, ◌<◌, Bool, ◌⊎◌, List, [], ◌∷◌, length, get_or, Some, None, Option, sym, refl, ap, ◌∙◌, subst, inl, inr, add-one, arith, length-take, get_or-take}
 use mathlib.Core.Logic.Dec
 use mathlib.Core.Logic.{by_cases}
 use native.Mathlib.Decide.{ℕ_discrete}
@@ -16,7 +16,7 @@ use Rattle.readings.specs.inner.Columns.{marked, Written}
 use Rattle.readings.specs.declared.offers.Pick.{Pick}
 use Rattle.readings.specs.inner.Cells.{Picking}
 use Rattle.readings.specs.inner.Candidates.{Candidate, Offers, Leads, Best, Untouched, OfferedTo, Offered, Repriced, Within, Foremost}
-use Rattle.readings.proofs.Least.{none_some, no_dearer_refl, least_none, least_same, least_either, lower_joined}
+use Rattle.readings.proofs.Least.{none_some, no_dearer_refl, least_same, least_either, lower_joined}
 use Rattle.readings.proofs.Optimal.{child_here, Bounds, bounds_up, bounds_from, bounds_to}
 use Rattle.readings.proofs.Rows.{child_off}
 
@@ -49,10 +49,6 @@ module _ {P : Type 0} (rules : List Rule) (S : Scale P) (ws : List ℕ) (t : Tab
             (λ e. f.done r (omega arith));
         left = λ r x. f.left r (omega arith);
       }
-
-  -- the same of lists that are equal
-  pub repriced_as : {ps ps' : List P} {bs bs' : List Bool} (a n : ℕ) → ps' ≡ ps → bs' ≡ bs → Repriced rules S ws t i j k a n (marked S ps bs) → Repriced rules S ws t i j k a n (marked S ps' bs')
-  repriced_as a n e f h = subst₂ (λ (xs : List P) (ys : List Bool). Repriced rules S ws t i j k a n (marked S xs ys)) (sym e) (sym f) h
 
 -- ---- what a price of another name leaves
 
@@ -124,9 +120,6 @@ module _ {P : Type 0} (S : Scale P) (L : Laws S) (ws : List ℕ) (t t' : Table P
 -- ---- the cheapest offer
 
 module _ {P : Type 0} (S : Scale P) (L : Laws S) (col : ℕ → Option P) where
-  pub foremost_none : (r : ℕ) → Foremost S col 0 r None
-  foremost_none r = record { least = least_none S L _ (λ q w. omega (arith, w.1)); stands = λ p e. absurd (none_some refl e) }
-
   -- the one at n by itself
   least_at : (n : ℕ) (o : Option P) → col n ≡ o → Least S (λ q. col n ≡ Some q) o
   least_at n None e = record { lower = λ q f. none_some e f; reached = tt }

@@ -18,12 +18,6 @@ use Rattle.readings.proofs.Derived.{all_over, table_refuses, table_cheapest}
 use Rattle.readings.proofs.Places.{sound_set}
 use Rattle.readings.proofs.Turns.{frames_packed}
 
--- no frames are left: the form is written
-pub stage_end : {P : Type 0} {rules : List Rule} {S : Scale P} {ws : List ℕ} {t : Table P} {a : ℕ} {st : List ℕ} {out : List ℕ} (h : ℕ) → h ≡ 0 → Stage rules S ws t a st h out → Reads rules S ws t a out × (length out ≤ 9984)
-stage_end {P} {rules} {S} {ws} {t} {a} {st} {out} h e w =
-    let s = subst (λ (n : ℕ). Stage rules S ws t a st n out) e w in
-    (s.walk.completes, omega (arith, s.walk.fits))
-
 module _ {P : Type 0} (rules : List Rule) (S : Scale P) (L : Laws S) (ws : List ℕ) (t : Table P) (f : Filled rules S ws t (length ws + 2) (length ws + 1)) (a : ℕ) where
   filled : Filled rules S ws t (length ws + 2) (suc (length ws))
   filled = subst (Filled rules S ws t (length ws + 2)) (add-one (length ws)) f

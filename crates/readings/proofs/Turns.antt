@@ -1,5 +1,5 @@
 -- The turns of the walk on its stack. Assumes nothing.
-use Rattle.std.proofs.Common.{◌≡◌, ℕ, zero, suc, ◌+◌, ◌-◌, ◌<◌, ◌≤◌, List, [], ◌∷◌, ◌++◌, length, get_or, take, drop, set, Some, sym, refl, ap, ◌∙◌, subst, subst₂, add-one, arith, length-append, length-set, drop_of_length-le, length-take, length-drop, drop-cons, drop-drop, take-suc-set, drop-set-lt}
+use Rattle.std.proofs.Common.{◌≡◌, ℕ, zero, suc, ◌+◌, ◌-◌, ◌<◌, ◌≤◌, List, [], ◌∷◌, ◌++◌, length, get_or, take, drop, set, Some, sym, refl, ap, ◌∙◌, subst, subst₂, add-one, arith, length-append, length-set, length-take, length-drop, drop-cons, drop-drop, take-suc-set, drop-set-lt}
 use Rattle.std.proofs.lemmas.List.{take_all}
 use Rattle.grammar.specs.declared.Symbol.{Symbol}
 use Rattle.grammar.specs.declared.Symbol.TheVariants.{Name, Word}
@@ -16,10 +16,6 @@ use Rattle.readings.proofs.Walks.{frame, chosen_upto, walk_leave, walk_word, wal
 use Rattle.readings.proofs.Places.{unpacked_packed, frames_push, sound_set}
 
 -- ---- the list
-
--- nothing is written
-pub longer_same : (xs : List ℕ) (n : ℕ) → n ≤ length xs → Longer xs n xs n
-longer_same xs n h = record { more = omega arith; within = h; rest = refl }
 
 -- one number is written
 pub longer_one : (xs : List ℕ) (n v : ℕ) → n < length xs → Longer xs n (set xs n v) (n + 1)
@@ -59,10 +55,6 @@ module _ {P : Type 0} (rules : List Rule) (t : Table P) where
   length_frames : (st : List ℕ) (h : ℕ) → length (frames rules t st h) ≡ h
   length_frames st zero = refl
   length_frames st (suc h) = ap suc (length_frames st h)
-
--- behind the last symbol nothing is left
-pub right_over : (n d : ℕ) (s : List Symbol) → n ≤ d → drop d (take n s) ≡ []
-right_over n d s h = drop_of_length-le (take n s) (rw (length-take n s) (omega arith))
 
 -- a right side is no longer than its rule says
 pub length_right : (n : ℕ) (s : List Symbol) → n ≤ 8 → length (take n s) ≤ 8

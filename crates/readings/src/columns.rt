@@ -1,7 +1,8 @@
 // Columns of prices, of which some are there.
 ghost use Rattle.std.specs.Prelude.{◌≡◌, ℕ, ◌<◌, ◌≤◌, length};
 
-// A price for each of N positions, in lent memory, if it is marked. An array of prices could not be lent: a proof does not know how many bytes a price has.
+// A price for each of N positions, if it is marked, in memory that the caller lends.
+// No array of N options: tried, and not proved, since no proof knows how many bytes a price has and whether N of them fit.
 #[derive(Drop)]
 pub struct Column<'a, P, const N: usize> {
     pub prices: &'a mut [P],

@@ -48,7 +48,7 @@ pub struct Cell<'a, P> {
     pub k: usize,
 }
 
-// The words with their table, in memory that the caller lends, while it is filled.
+// The words with their table while it is filled, which stays two slices, since the caller lends its memory.
 #[derive(Drop)]
 pub struct Lent<'a, P> {
     pub words: &'a [u8],

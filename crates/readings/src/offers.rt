@@ -94,6 +94,7 @@ pub(crate) fn cheapest_offer<S: Scale>(
     ensures { Picking S.Scale.measure (marked S.Scale.measure offers.now.prices.now offers.now.marks) n result }
 {
     let mut best: Option<Pick<S::Price>> = None;
+    // No iterator: a column's prices and marks are apart, and `get` joins them.
     for r in 0..n {
         let offer = offers.get(r);
         if improves::<S>(best.map(|pick| pick.price), offer) {

@@ -70,7 +70,7 @@ impl Scale for Worst {
     }
 
     fn join(a: u16, b: u16) -> u16 {
-        if a < b { b } else { a }
+        a.max(b)
     }
 
     fn no_dearer(a: u16, b: u16) -> bool {

@@ -1,4 +1,4 @@
-// Frames of the walk, and the numbers that they are on its stack.
+// Frames of the walk, and the numbers that they are on its stack, which lies in memory that the caller lends.
 ghost use Rattle.std.specs.Prelude.{◌≡◌, ◌<◌};
 
 // A frame of the walk: the name a over (i, j), of whose rule d symbols are written, up to m.
