@@ -9,7 +9,6 @@ use Rattle.grammar.specs.View.{grammar_of}
 use Rattle.tables.specs.Columns.{Column}
 use Rattle.seats.specs.Seats.{Seat}
 use Rattle.seats.proofs.Records.{listed_low, seat_count, seat_word, seat_whole}
-use Rattle.seats.proofs.TableLent.{lent_is}
 use Rattle.readings.specs.declared.read.Reading.{Reading}
 use Rattle.readings.specs.Scales.{Scale}
 use Rattle.readings.specs.Cheapest.{Cheapest, Unread}
@@ -18,11 +17,11 @@ use Rattle.reader.specs.inner.Settled.{settled}
 
 module _ (s : Sheet) (ws xs : List ℕ) (stand : Seat s ws xs) where
   -- the last column, in the table as it is lent
-  pub last_column : Column (grammar_of s) ws (take 924 (drop 21 xs)) (get_or xs 0 0)
-  last_column = subst (λ (t : List ℕ). Column (grammar_of s) ws t (get_or xs 0 0)) (sym (lent_is xs stand.size)) (stand.table (get_or xs 0 0) (seat_whole s ws xs stand).few)
+  pub last_column : (t : List ℕ) → t ≡ drop 21 xs → Column (grammar_of s) ws t (get_or xs 0 0)
+  last_column t e = subst (λ (t : List ℕ). Column (grammar_of s) ws t (get_or xs 0 0)) (sym e) (stand.table (get_or xs 0 0) (seat_whole s ws xs stand).few)
 
   -- the counted words, each cut to eight bits, are the words
-  pub copied : (words : List ℕ) → length words ≡ 20 → ((k : ℕ) → k < get_or xs 0 0 → get_or words k 0 ≡ get_or xs (1 + k) 0 % 256) → take (get_or xs 0 0) words ≡ ws
+  pub copied : (words : List ℕ) → length words ≡ 20 → ((k : ℕ) → k < 20 → get_or words k 0 ≡ get_or xs (1 + k) 0 % 256) → take (get_or xs 0 0) words ≡ ws
   copied words long copies =
       let few = stand.few in
       let count = seat_count s ws xs stand in

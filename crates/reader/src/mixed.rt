@@ -2,6 +2,7 @@
 ghost use Rattle.std.specs.Prelude.{◌≡◌, ◌∷◌, length};
 ghost use Rattle.faults.specs.Faults.{telling};
 ghost use Rattle.seats.specs.Standing.{Kept, hear_at};
+ghost use Rattle.seats.specs.Answers.{Answered};
 ghost use Rattle.reader.specs.Runs.{calls_of};
 ghost use Rattle.reader.specs.Mixed.{Joined};
 
@@ -24,10 +25,10 @@ pub fn perform_then_hear<T: Source, U: Source, C: Scale>(
     numbers: &mut [u32],
     source: &mut U,
 ) -> Result<usize, Fault>
-    ensures { length hall.old ≡ 3780 → Kept sheet.now (hear_at seat (U.Source.meaning source.old) ∷ calls_of T.Source.meaning turns.old) hall.new }
+    ensures kept { length hall.old ≡ 3780 → Kept sheet.now (hear_at seat (U.Source.meaning source.old) ∷ calls_of T.Source.meaning turns.old) hall.new }
+    ensures heard { length hall.old ≡ 3780 → Answered sheet.now (calls_of T.Source.meaning turns.old) (hear_at seat (U.Source.meaning source.old)) (telling result) (hear_at seat (U.Source.meaning source.new)) }
 {
-    let _ = perform::<T, C>(sheet, hall, turns, seat, list, prices, numbers);
-    hear(sheet, hall, seat, source)
+    perform_and_hear::<T, U, C>(sheet, hall, turns, seat, list, prices, numbers, source).1
 }
 
 // The same, with both answers: the run as it is by itself, its reading, and what hear answers after it.

@@ -50,8 +50,7 @@ fn make<T: Source>(sheet: &Sheet, hall: &mut [u64], call: &mut Call<T>) -> Resul
 fn take_turn<T: Source>(sheet: &Sheet, hall: &mut [u64], turn: &mut Turn<T>)
     ensures { (cs : _) → Kept sheet.now cs hall.old → Turned T.meaning sheet.now cs turn.old turn.new hall.new }
 {
-    let answer = make(sheet, hall, &mut turn.call);
-    turn.answer = answer;
+    turn.answer = make(sheet, hall, &mut turn.call);
 }
 
 // Opens the hall, makes the calls in order, keeps each one's answer, then reads a seat.
@@ -67,6 +66,7 @@ pub fn perform<T: Source, C: Scale>(
     ensures { Performed T.Source.meaning sheet.now C.Scale.measure seat hall.old turns.old (record { list = list.old; prices = prices.old; numbers = numbers.old }) (telling result) hall.new turns.new (record { list = list.new; prices = prices.new; numbers = numbers.new }) }
 {
     open(sheet, hall)?;
+    // By index: of turns that `iter_mut` lent out, only the length is known.
     for i in 0..turns.len() {
         take_turn(sheet, hall, &mut turns[i]);
     }

@@ -1,8 +1,7 @@
 // Reads the words standing at a seat: a cheapest derivation of them, or why there is none.
-ghost use Rattle.std.specs.Prelude.{◌≡◌, ℕ, ◌+◌, ◌%◌, ◌<◌, ◌≤◌, List, length, Decides, slice_index};
+ghost use Rattle.std.specs.Prelude.{◌≡◌, ℕ, ◌+◌, ◌%◌, ◌<◌, List, Decides, slice_index};
 ghost use Rattle.faults.specs.Faults.{telling};
-ghost use Rattle.seats.specs.Seats.{Seat, Whole, seat as seat_of};
-ghost use Rattle.seats.specs.Calls.{Addressed};
+ghost use Rattle.seats.specs.Seats.{Seat, Whole};
 ghost use Rattle.reader.specs.Reads.{Room, Reads, Read};
 ghost use Rattle.reader.specs.inner.Settled.{settled};
 
@@ -10,7 +9,8 @@ use faults::{Fault, Layer, Refusal};
 use grammar::sheet::Sheet;
 use readings::read::{Reading, write_reading};
 use readings::scale::Scale;
-use seats::calls::bar;
+use seats::calls::record;
+use std::array::from_fn;
 use tables::is_command;
 
 // Whether what is lent is long enough.
@@ -20,45 +20,30 @@ fn has_room<P>(list: &[u8], prices: &[P], numbers: &[u32]) -> bool
     list.len() >= 10240 && prices.len() >= 8192 && numbers.len() >= 8192
 }
 
-// The numbers of one seat.
-fn numbers_at(hall: &[u64], k: usize) -> &[u64]
-    requires { Addressed hall.now k }
-    ensures { result.now ≡ seat_of hall.now k }
+// The words of a record, which are below 64 where they are counted and the record is whole.
+fn copy_words(seat: &[u64; 945]) -> [u8; 20]
+    ensures { (k : ℕ) → k < 20 → slice_index result k ≡ slice_index seat.now (1 + k) % 256 }
 {
-    &hall[945 * k..945 * k + 945]
-}
-
-// The counted words, each of which is below 64 where the record is whole.
-fn copy_words(seat: &[u64], count: usize) -> [u8; 20]
-    requires long { length seat.now ≡ 945 }
-    requires few { count ≤ 20 }
-    ensures { (k : ℕ) → k < count → slice_index result k ≡ slice_index seat.now (1 + k) % 256 }
-{
-    let mut words = [0; 20];
-    for k in 0..count {
-        words[k] = (seat[1 + k] % 256) as u8;
-    }
-    words
+    from_fn(|k| (seat[1 + k] % 256) as u8)
 }
 
 // Reads at the seat's own numbers.
 fn read_seat<C: Scale>(
     sheet: &Sheet,
-    seat: &[u64],
+    seat: &[u64; 945],
     list: &mut [u8],
     prices: &mut [C::Price],
     numbers: &mut [u32],
 ) -> Option<Reading<C::Price>>
-    requires long { length seat.now ≡ 945 }
     requires whole { Whole sheet.now seat.now }
     requires room { Room (record { list = list.old; prices = prices.old; numbers = numbers.old }) }
     ensures { (ws : List ℕ) → Seat sheet.now ws seat.now → Reads sheet.now C.Scale.measure ws (record { list = list.old; prices = prices.old; numbers = numbers.old }) (settled result) (record { list = list.new; prices = prices.new; numbers = numbers.new }) }
 {
     let count = seat[0] as usize;
-    if !is_command(sheet, &seat[21..945], count) {
+    if !is_command(sheet, seat.last_chunk().unwrap(), count) {
         return None;
     }
-    let words = copy_words(seat, count);
+    let words = copy_words(seat);
     write_reading::<C>(sheet, &words[..count], list, prices, numbers)
 }
 
@@ -66,10 +51,7 @@ fn read_seat<C: Scale>(
 fn answer<C: Scale>(reading: Option<Reading<C::Price>>) -> Result<Reading<C::Price>, Fault>
     ensures { telling result ≡ settled reading }
 {
-    match reading {
-        Some(reading) => Ok(reading),
-        None => Err(Fault::new(Refusal::NoCommand, 0, Layer::Seat)),
-    }
+    reading.ok_or(Fault::new(Refusal::NoCommand, 0, Layer::Seat))
 }
 
 // Where the record is one of words, every refusal comes before any write.
@@ -83,12 +65,9 @@ pub fn read<C: Scale>(
 ) -> Result<Reading<C::Price>, Fault>
     ensures { Read sheet.now C.Scale.measure seat hall.now (record { list = list.old; prices = prices.old; numbers = numbers.old }) (telling result) (record { list = list.new; prices = prices.new; numbers = numbers.new }) }
 {
-    if let Some(fault) = bar(sheet, hall, seat) {
-        return Err(fault);
-    }
+    let own = record(sheet, hall, seat)?;
     if !has_room(list, prices, numbers) {
         return Err(Fault::new(Refusal::BufferTooShort, 0, Layer::Seat));
     }
-    let own = numbers_at(hall, seat);
     answer::<C>(read_seat::<C>(sheet, own, list, prices, numbers))
 }
