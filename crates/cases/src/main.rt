@@ -1,7 +1,6 @@
 // Runs stored inputs through the console's work, and says of each whether it answers as it should.
 #![tactic(auto)]
 
-use answers::input::next_message;
 use replies::run::run;
 use std::{fs, io};
 
@@ -19,22 +18,19 @@ fn is_like(expected: &[u8], line: &[u8]) -> bool {
     }
 }
 
+// Without its end, which the last line may lack.
+fn bare(line: &[u8]) -> &[u8] {
+    line.strip_suffix(b"\n").unwrap_or(line)
+}
+
 fn are_alike(expected: &[u8], output: &[u8]) -> bool {
-    let mut wanted = expected;
-    let mut written = output;
-    for _ in 0..expected.len() {
-        match (next_message(wanted), next_message(written)) {
-            (Some((line, more)), Some((answer, rest))) => {
-                if !is_like(line, answer) {
-                    return false;
-                }
-                wanted = more;
-                written = rest;
-            }
-            _ => return wanted.is_empty() && written.is_empty(),
+    let mut written = output.split_inclusive(|b| *b == b'\n').map(bare);
+    for line in expected.split_inclusive(|b| *b == b'\n').map(bare) {
+        if !written.next().is_some_and(|answer| is_like(line, answer)) {
+            return false;
         }
     }
-    wanted.is_empty() && written.is_empty()
+    written.next().is_none()
 }
 
 fn show_case(rt: &HostRuntime, name: &str) -> io::Result<()> {
@@ -42,8 +38,8 @@ fn show_case(rt: &HostRuntime, name: &str) -> io::Result<()> {
     let input = fs::read(rt, format!(in heap; "{name}.in")?)?;
     let expected = fs::read(rt, format!(in heap; "{name}.expected")?)?;
     let mut output = Vec::new(heap);
-    run(heap, input.as_slice(), &mut output)?;
-    if are_alike(expected.as_slice(), output.as_slice()) {
+    run(&input, &mut output)?;
+    if are_alike(&expected, &output) {
         println!(rt; "{name} as expected")
     } else {
         println!(rt; "{name} DIFFERS")

@@ -15,6 +15,6 @@ fn main(rt: HostRuntime) -> io::Result<()> {
         )?;
     }
     let mut output = Vec::new(heap);
-    run(heap, input.as_slice(), &mut output)?;
-    rt.stdout().write_all(output.as_slice())
+    run(&input, &mut output)?;
+    rt.stdout().write_all(&output)
 }
