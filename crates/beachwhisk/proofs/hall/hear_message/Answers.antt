@@ -1,17 +1,10 @@
-use Rattle.std.proofs.Common.{Err, refl, ap, subst}
-use Rattle.std.proofs.lemmas.Result.{err_from_is_err_and}
+use Rattle.std.proofs.Common.{subst}
 use Rattle.faults.specs.Faults.{telling}
 use Rattle.sources.specs.Values.{pile_means}
 use Rattle.seats.specs.Standing.{hear_at}
 use Rattle.seats.specs.Calls.{Anew, Keeps}
-use Rattle.beachwhisk.specs.Calls.{too_long, heard}
+use Rattle.beachwhisk.specs.Calls.{heard}
 use Rattle.beachwhisk.proofs.hall.hear_message.Goals as goal
-
-pub returns-in_err-source : goal.returns-in_err-source
-returns-in_err-source c =
-    let got = c.in_err-source.ensures in
-    let p = err_from_is_err_and c.from_residual.result c.from_residual.ensures.1 in
-    rw (p.1, p.2) (too_long got.0 (ap Err got.1) refl)
 
 pub returns : goal.returns
 returns c =
