@@ -61,20 +61,10 @@ fn turn<S: Scale>(
             at
         }
         Symbol::Name(b) => {
-            let a = b as usize;
-            let below = Stretch {
-                ground,
-                i: m,
-                j: to,
-            };
+            let (i, j, a) = (m, to, b as usize);
+            let below = Stretch { ground, i, j };
             list[at.written] = (below.rule_of(a) + 1) as u8;
-            stack[at.height] = u32::from(Spot {
-                i: m,
-                j: to,
-                a,
-                d: 0,
-                m,
-            });
+            stack[at.height] = u32::from(Spot { i, j, a, d: 0, m });
             at.height += 1;
             at.written += 1;
             at
