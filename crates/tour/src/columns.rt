@@ -3,7 +3,7 @@ use super::overview::{show_dotted, show_numbered};
 use grammar::Rule;
 use grammar::sheet::Sheet;
 use items::Items;
-use seats::calls::{clear, held, offer, say};
+use seats::calls::{clear, held, offer, record, say};
 use sources::source::Source;
 use std::io;
 use tables::cell_items;
@@ -42,11 +42,13 @@ fn show_cell(rt: &impl Print, sheet: &Sheet, cell: Cell) -> io::Result<()> {
     Ok(())
 }
 
-// The cells of the last column; the seat is the hall's first, and its words and their count stand before its table.
+// The cells of the last column; the seat is the hall's first, and its record ends with the table.
 fn show_cells(rt: &impl Print, sheet: &Sheet, hall: &[u64], count: usize) -> io::Result<()> {
-    let Some(table) = hall.get(21..945) else {
-        return Ok(());
+    let own = match record(sheet, hall, 0) {
+        Ok(own) => own,
+        Err(fault) => return println!(rt; "{fault}"),
     };
+    let table = own.last_chunk().unwrap();
     let j = count.min(20);
     for i in 0..j + 1 {
         let items = cell_items(table, i, j);
