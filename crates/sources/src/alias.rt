@@ -7,6 +7,7 @@ use super::source::{Heard, Source};
 use faults::Fault;
 use grammar::sheet::Sheet;
 
+// The first `count` pairs count; without a heap the row is as long as a sheet may need.
 #[derive(Drop)]
 pub struct Alias<S> {
     pairs: [grammar::Alias; 16],
