@@ -22,7 +22,7 @@ pub(crate) fn sample() -> Sheet {
     sheet
 }
 
-// How a source ends.
+// How a source ends: one way more than a Result has.
 #[derive(Clone, Copy, PartialEq, Eq, Debug)]
 pub enum Ending {
     End,
