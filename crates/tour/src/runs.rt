@@ -17,6 +17,7 @@ fn show_form(rt: &impl Print, list: &[u8], length: usize) -> io::Result<()> {
     println!(rt; "")
 }
 
+// The run itself has read on points, so its answer is shown and nothing is read anew.
 fn show_points(
     rt: &impl Print,
     list: &[u8],

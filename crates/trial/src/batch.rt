@@ -102,7 +102,7 @@ fn show_difference(rt: &HostRuntime, number: u64, case: &Case) -> io::Result<()>
     print!(rt; "{}", case.found)
 }
 
-// A case ends with an empty line.
+// A case ends with an empty line. Two counts that go up at different lines are no enumerate, and no bound is known of them.
 pub(crate) fn show_batch(rt: &HostRuntime, title: &str, text: &str) -> io::Result<()> {
     let mut case = Case::new(rt.alloc())?;
     let mut count = 0u64;
