@@ -7,6 +7,7 @@ use faults::Fault;
 use readings::read::Reading;
 
 // Code 0 and the value, or the refusal's number with its place and its layer; what is not told is 0.
+// Numbers and no Result, since C reads them.
 #[derive(Clone, Copy, PartialEq, Eq, Debug)]
 #[repr(C)]
 pub struct Answer {

@@ -25,6 +25,7 @@ fn bare(line: &[u8]) -> &[u8] {
 
 fn are_alike(expected: &[u8], output: &[u8]) -> bool {
     let mut written = output.split_inclusive(|b| *b == b'\n').map(bare);
+    // No `all`: a closure may not hold the other iterator.
     for line in expected.split_inclusive(|b| *b == b'\n').map(bare) {
         if !written.next().is_some_and(|answer| is_like(line, answer)) {
             return false;

@@ -11,7 +11,7 @@ use super::ground::{Cell, Lent, Rules, Stretch};
 use super::offers::{cheapest_offer, offer_all, reprice};
 use super::scale::Scale;
 
-// The name of the cheapest offer gets its price over (i, j), as the k-th there; false if no offer is left.
+// The name of the cheapest offer gets its price over (i, j), as the k-th there; false if no offer is left, which ends a cell and is no error.
 fn price_next<S: Scale>(
     rules: Rules,
     lent: &mut Lent<S::Price>,

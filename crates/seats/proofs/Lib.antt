@@ -1,4 +1,3 @@
-pub mod Bits
 pub mod Clearing
 pub mod Columns
 pub mod Keeping

@@ -1,13 +1,12 @@
 -- What a seat holds when its words and its table have changed.
 use Rattle.std.proofs.Common.{◌≡◌, ℕ, ◌+◌, ◌-◌, ◌<◌, ◌≤◌, List, [], ◌∷◌, ◌++◌, length, get_or, take, drop, set, replicate, sym, refl, ap, ◌∙◌, subst, ⊎_elim, arith}
 use lib.Seq.{take-set-lt}
-use Rattle.std.proofs.lemmas.List.{drop-replicate, drop-set-lt, get_or-drop, get_or_append_left, get_or_push, get_or-take, length-drop, length-map, length_push, length-replicate, length-set, length-take, length-take-le, take-replicate}
+use Rattle.std.proofs.lemmas.List.{drop-replicate, drop-set-lt, get_or-drop, get_or_append_left, get_or_push, get_or-take, length-drop, length_push, length-replicate, length-set, length-take, length-take-le, take-replicate}
 use Rattle.std.proofs.lemmas.Bool.{cases_lt}
 use Rattle.std.specs.Prelude.{Bool, true, false, Decides, MatchBool}
 use Rattle.std.specs.List.{AllWithin, HoldsAt}
 use Rattle.grammar.specs.declared.sheet.Sheet.{Sheet}
 use Rattle.grammar.specs.Grammar.{Grammar}
-use Rattle.grammar.specs.Limits.{text}
 use Rattle.grammar.specs.View.{grammar_of, words_in}
 use Rattle.grammar.proofs.Views.{words_whole}
 use Rattle.tables.specs.Columns.{Column, Next, Beside}

@@ -8,6 +8,7 @@ ghost use Rattle.seats.specs.inner.Cleared.{Cleared};
 
 use faults::{Fault, Layer, Refusal};
 use grammar::sheet::Sheet;
+use items::few::holds;
 use tables::{fill_column, offer};
 
 // A fault of the seats' layer.
@@ -52,7 +53,7 @@ pub(crate) fn add(sheet: &Sheet, seat: &mut [u64; 945], word: u8) -> Result<usiz
     if n == 20 {
         return Err(refused(Refusal::Full, n));
     }
-    if (offers(sheet, seat) >> word) & 1 == 0 {
+    if !holds(offers(sheet, seat), word) {
         return Err(refused(Refusal::LeadsNowhere, n));
     }
     seat[n + 1] = word as u64;

@@ -8,9 +8,9 @@ const TEXT: &[u8] =
 
 // Whether the list has a spelling at its place `a`, of these bytes.
 fn spells(spellings: &[Spelling], a: usize, bytes: &[u8]) -> bool {
-    spellings.get(a).is_some_and(|spelling| {
-        spelling.len as usize == bytes.len() && spelling.bytes.starts_with(bytes)
-    })
+    spellings
+        .get(a)
+        .is_some_and(|spelling| spelling.as_bytes() == bytes)
 }
 
 #[test]

@@ -1,4 +1,5 @@
 // The names and words of a draft.
+// Names and words have a function each only to lend another shelf of the draft: what they do is `intern`.
 ghost use Rattle.std.specs.Prelude.{◌≡◌, ℕ, ◌≤◌, true, length, Ok, Err};
 ghost use Rattle.grammar.specs.Letters.{name_spelled, word_spelled};
 ghost use Rattle.sheets.specs.inner.Fields.{symbol_spelled};

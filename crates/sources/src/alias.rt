@@ -8,7 +8,7 @@ use faults::Fault;
 use grammar::sheet::Sheet;
 use grammar::shelf::Shelf;
 
-// The first `count` pairs count; without a heap the row is as long as a sheet may need.
+// The pairs are a copy, so that the sheet need not be lent as long as the source lives.
 #[derive(Drop)]
 pub struct Alias<S> {
     pairs: Shelf<grammar::Alias, 16>,

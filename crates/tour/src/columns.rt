@@ -3,6 +3,7 @@ use super::overview::{show_dotted, show_numbered};
 use grammar::Rule;
 use grammar::sheet::Sheet;
 use items::Items;
+use items::few::holds;
 use seats::calls::{clear, held, offer, record, say};
 use sources::source::Source;
 use std::io;
@@ -71,7 +72,7 @@ fn show_column(rt: &impl Print, sheet: &Sheet, hall: &[u64], count: usize) -> io
 }
 
 fn show_offer(rt: &impl Print, sheet: &Sheet, words: u64) -> io::Result<()> {
-    for w in (0..64u8).filter(|w| words >> *w & 1 == 1) {
+    for w in (0..64u8).filter(|w| holds(words, *w)) {
         print!(rt; " ")?;
         show_numbered(rt, sheet.words(), w)?;
     }

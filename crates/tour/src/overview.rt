@@ -1,6 +1,7 @@
 // What is printed of a sheet: its names, words and rules by their numbers, and its dotted places.
 use grammar::sheet::Sheet;
 use grammar::{Rule, Spelling, Symbol};
+use items::few::holds;
 use std::io;
 
 // Each byte as the character of its number.
@@ -12,10 +13,7 @@ pub(crate) fn show_bytes(rt: &impl Print, bytes: &[u8]) -> io::Result<()> {
 }
 
 fn show_spelling(rt: &impl Print, spelling: &Spelling) -> io::Result<()> {
-    show_bytes(
-        rt,
-        spelling.bytes.get(..spelling.len as usize).unwrap_or(&[]),
-    )
+    show_bytes(rt, spelling.as_bytes())
 }
 
 // A name or a word by its number; the sheet lists every number that it holds.
@@ -69,10 +67,10 @@ fn show_names(rt: &impl Print, sheet: &Sheet) -> io::Result<()> {
 
 fn show_words(rt: &impl Print, sheet: &Sheet) -> io::Result<()> {
     let fillers = sheet.fillers();
-    for (w, word) in sheet.words().iter().enumerate().take(64) {
+    for (w, word) in (0u8..64).zip(sheet.words()) {
         print!(rt; "word {w}: ")?;
         show_spelling(rt, word)?;
-        if fillers >> w & 1 == 1 {
+        if holds(fillers, w) {
             print!(rt; ", a filler")?;
         }
         println!(rt; "")?;

@@ -13,8 +13,8 @@ pub(crate) fn push_fault(out: &mut String, fault: Fault) -> Result<(), AllocErro
 
 fn push_spelling(out: &mut String, spelling: &Spelling) -> Result<(), AllocError> {
     write!(out, " ")?;
-    for b in spelling.bytes.iter().take(spelling.len as usize) {
-        write!(out, "{}", *b as char)?;
+    for b in spelling.as_bytes() {
+        write!(out, "{}", char::from(*b))?;
     }
     Ok(())
 }

@@ -6,7 +6,6 @@ use Rattle.faults.specs.Faults.{Told, told}
 use Rattle.grammar.specs.declared.sheet.Sheet.{Sheet}
 use Rattle.seats.specs.Seats.{Listed, Seat}
 use Rattle.seats.specs.Answers.{fault, Refuses, unlisted, full, leads_nowhere, Said, added, refused}
-use Rattle.seats.proofs.Bits.{bit_clear, bit_set}
 use Rattle.seats.proofs.TableLent.{lent_is, table_long, back_size}
 use Rattle.seats.proofs.Records.{listed_low, seat_count, seat_added}
 use Rattle.seats.proofs.seat.add.Goals as goal
@@ -31,18 +30,15 @@ returns-then-n-eq20 c = record {
   size = c.told-seat;
 }
 
-pub overflow_shr-offers : goal.overflow_shr-offers
-overflow_shr-offers c = listed_low c.args.sheet.now c.args.word (omega arith)
-
-pub returns-then-offers-word-eq0 : goal.returns-then-offers-word-eq0
-returns-then-offers-word-eq0 c = record {
+pub returns-then-not-holds : goal.returns-then-not-holds
+returns-then-not-holds c = record {
   said = λ ws h.
       let w = c.args.word in
       let n = seat_count c.args.sheet.now ws c.args.seat.now h in
       let few = h.few in
-      left c.args.sheet.now ws c.args.seat.now w LeadsNowhere (told c.refused-then-offers-word-eq0.result) h
-      (leads_nowhere (omega arith) (omega (arith, c.if-n-eq20.false)) (λ o. bit_clear c.offers.result w c.if-offers-word-eq0.true ((c.offers.ensures ws h w).1 o)) refl)
-      c.refused-then-offers-word-eq0.ensures;
+      left c.args.sheet.now ws c.args.seat.now w LeadsNowhere (told c.refused-then-not-holds.result) h
+      (leads_nowhere (omega arith) (omega (arith, c.if-n-eq20.false)) (λ o. let e = (c.offers.ensures ws h w).1 o in let no = c.if-not-holds.true in cc) refl)
+      c.refused-then-not-holds.ensures;
   untouched = λ f e. refl;
   size = c.told-seat;
 }
@@ -69,7 +65,7 @@ returns c =
           let listed : Listed s w = omega arith in
           let room : n < 20 = omega (arith, c.if-n-eq20.false) in
           let long : n + 1 ≡ length (ws ++ (w ∷ [])) = omega (arith, length_push ws w) in
-          let offered = (c.offers.ensures ws h w).0 (bit_set c.offers.result w c.if-offers-word-eq0.false) in (
+          let offered = (c.offers.ensures ws h w).0 ((sym c.holds.ensures ∙ c.if-not-holds.false)) in (
             ws ++ (w ∷ []),
             added (record { listed = listed; room = omega arith; offered = offered }) refl (ap (λ (i : ℕ). Ok i) long),
             seat_added s ws xs h n w ys (sym is) room listed c.unwrap.result.now table c.fill_column.ensures.exact c.fill_column.ensures.others,
