@@ -55,6 +55,7 @@ fn answer<C: Scale>(reading: Option<Reading<C::Price>>) -> Result<Reading<C::Pri
 }
 
 // Where the record is one of words, every refusal comes before any write.
+// Three slices: of a struct of them by `&mut` two fields cannot go into one call yet, and by value a clause would say `lent.exit.1.1.0.now`.
 pub fn read<C: Scale>(
     sheet: &Sheet,
     hall: &[u64],
