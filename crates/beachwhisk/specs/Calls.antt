@@ -1,14 +1,12 @@
 -- The contracts of the library's calls: those of the hall, on a sheet that the given text means. Assumes nothing.
-use Rattle.std.specs.Prelude.{◌≡◌, ℕ, ◌<◌, ◌≤◌, List, [], ◌∷◌, length, Ok, Err, Result}
-use Rattle.faults.specs.declared.Layer.TheVariants.{Text as TextLayer}
-use Rattle.faults.specs.declared.Refusal.TheVariants.{MessageTooLong}
-use Rattle.faults.specs.Faults.{Told, met}
+use Rattle.std.specs.Prelude.{◌≡◌, ℕ, List, [], ◌∷◌, length, Ok, Err, Result}
+use Rattle.faults.specs.Faults.{Told}
 use Rattle.grammar.specs.declared.sheet.Sheet.{Sheet}
 use Rattle.grammar.specs.View.{words_in}
 use Rattle.sheets.specs.Texts.{Loaded, Refused}
 use Rattle.sources.specs.Piles.{piled}
-use Rattle.seats.specs.Standing.{Call, Kept, open_all, clear_at, say_at, back_at, hear_at}
-use Rattle.seats.specs.Calls.{Opened, Changed, Anew, Keeps, Looked, Held, Offers}
+use Rattle.seats.specs.Standing.{Call, Kept, open_all, clear_at, say_at, back_at}
+use Rattle.seats.specs.Calls.{Opened, Changed, Anew, Keeps, MessageHeard, Looked, Held, Offers}
 use Rattle.readings.specs.declared.read.Reading.{Reading}
 use Rattle.readings.specs.Scales.{Scale}
 use Rattle.reader.specs.Reads.{Lent, Read}
@@ -35,13 +33,9 @@ Say text k w hall r hall' = Given text (λ s a. Changed s k (say_at k w) hall a 
 abbrev pub Back : List ℕ → ℕ → List ℕ → Result ℕ Told → List ℕ → Type 0
 Back text k hall r hall' = Given text (λ s a. Changed s k (back_at k) hall a hall' × Keeps s (back_at k) hall hall') (hall' ≡ hall) r
 
--- what is heard of a message through the server's pile; one that is too long is not heard at all
-pub data Heard (s : Sheet) (k : ℕ) (message hall : List ℕ) (r : Result ℕ Told) (hall' : List ℕ) : Type 0 where
-  too_long : 512 < length message → r ≡ Err (met MessageTooLong 0 TextLayer) → hall' ≡ hall → Heard s k message hall r hall'
-  heard : length message ≤ 512 → (rest : Call) → Anew s k (hear_at k (piled s message)) hall r hall' rest → Keeps s (hear_at k (piled s message)) hall hall' → Heard s k message hall r hall'
-
+-- hear, through the server's pile
 abbrev pub Hear : List ℕ → ℕ → List ℕ → List ℕ → Result ℕ Told → List ℕ → Type 0
-Hear text k message hall r hall' = Given text (λ s a. Heard s k message hall a hall') (hall' ≡ hall) r
+Hear text k message hall r hall' = Given text (λ s a. MessageHeard s k message hall a hall') (hall' ≡ hall) r
 
 abbrev pub Offer : List ℕ → ℕ → List ℕ → Result ℕ Told → Type 0
 Offer text k hall r = Given text (λ s a. Looked s k hall a (Offers s)) (Unit {0}) r

@@ -1,29 +1,13 @@
 // The calls at a hall. Each loads the sheet from its text first: its refusals come before all others.
-ghost use Rattle.std.specs.Prelude.{◌≡◌, ℕ, Ok, Err, Result};
-ghost use Rattle.faults.specs.Faults.{Told, told, telling};
-ghost use Rattle.sheets.specs.Texts.{Loaded, Refused};
+ghost use Rattle.std.specs.Prelude.{◌≡◌, ℕ, Result};
+ghost use Rattle.faults.specs.Faults.{Told};
 ghost use Rattle.beachwhisk.specs.Told.{answer_of};
-ghost use Rattle.beachwhisk.specs.Calls.{Load, Open, Clear, Say, Back, Heard, Hear, Offer, CountHeld};
+ghost use Rattle.beachwhisk.specs.Calls.{Load, Open, Clear, Say, Back, Hear, Offer, CountHeld};
 
 use crate::answer::Answer;
-use faults::Fault;
-use grammar::sheet::Sheet;
 use seats::calls::{back, clear, held, offer, open, say};
-use seats::hearing::hear;
-use sheets::load::load;
-use sources::alias::Alias;
-use sources::filler::Filler;
-use sources::pile::pile;
-use sources::text::Text;
-
-// The sheet of a text.
-pub(crate) fn sheet_of(text: &[u8]) -> Result<Sheet, Fault>
-    ensures { elim result [ Ok sheet ↦ Loaded text.now sheet | Err fault ↦ Refused text.now (told fault) ] }
-{
-    let mut sheet = Sheet::blank();
-    load(text, &mut sheet)?;
-    Ok(sheet)
-}
+use seats::hearing::hear_message;
+use sheets::load::sheet_of;
 
 // How many words the sheet has.
 #[unsafe(no_mangle)]
@@ -77,19 +61,6 @@ pub extern "C" fn beachwhisk_back(text: &[u8], hall: &mut [u64], seat: usize) ->
         Ok(sheet) => back(&sheet, hall, seat).into(),
         Err(fault) => fault.into(),
     }
-}
-
-// Hears a message on the sheet; one that is too long has no source, and nothing is cleared.
-fn hear_message<'a>(
-    sheet: &'a Sheet,
-    hall: &mut [u64],
-    seat: usize,
-    message: &'a [u8],
-) -> Result<usize, Fault>
-    ensures { Heard sheet.now seat message.now hall.old (telling result) hall.new }
-{
-    let mut source = pile(sheet, message)?;
-    hear(sheet, hall, seat, &mut source)
 }
 
 // Hears a message through the server's pile: filler over alias over text.

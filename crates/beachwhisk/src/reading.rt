@@ -6,12 +6,12 @@ ghost use Rattle.readings.specs.Scales.{points, worst};
 ghost use Rattle.beachwhisk.specs.Told.{reading_of};
 ghost use Rattle.beachwhisk.specs.Calls.{ReadOn};
 
-use super::hall::sheet_of;
 use crate::answer::ReadAnswer;
 use faults::Fault;
 use reader::read::read;
 use readings::read::Reading;
 use readings::scale::{Points, Scale, Worst};
+use sheets::load::sheet_of;
 
 // Reads on a scale.
 fn read_on<C: Scale>(

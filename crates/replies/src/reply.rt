@@ -20,20 +20,18 @@ use std::alloc::AllocError;
 fn read_by<C: Scale>(
     sheet: &Sheet,
     hall: &[u64],
-    list: &mut [u8],
-    prices: &mut [C::Price],
+    list: &mut [u8; 10240],
+    prices: &mut [C::Price; 8192],
 ) -> Result<Reading<C::Price>, Fault>
-    requires long { length hall.now ≡ 3780 }
-    requires room { (10240 ≤ length list.old) × (8192 ≤ length prices.old) }
+    requires { length hall.now ≡ 3780 }
     ensures { (ws : List ℕ) → Seat sheet.now ws (seat hall.now 0) → ReadBy sheet.now C.Scale.measure ws list.new result }
 {
     read::<C>(sheet, hall, 0, list, prices, &mut [0; 8192])
 }
 
 // Both readings of the words at the first seat, which answer or refuse together; the form by points is left in the list.
-fn read_both(sheet: &Sheet, hall: &[u64], list: &mut [u8]) -> Result<Answer, Fault>
+fn read_both(sheet: &Sheet, hall: &[u64], list: &mut [u8; 10240]) -> Result<Answer, Fault>
     requires long { length hall.now ≡ 3780 }
-    requires room { 10240 ≤ length list.old }
     requires seated { (ws : List ℕ) × Seat sheet.now ws (seat hall.now 0) }
     ensures { (ws : List ℕ) → Seat sheet.now ws (seat hall.now 0) → AnswerLine sheet.now ws (line_of list.new result) }
 {
@@ -47,8 +45,7 @@ fn read_both(sheet: &Sheet, hall: &[u64], list: &mut [u8]) -> Result<Answer, Fau
 }
 
 // The message is heard at a hall that nothing else sees.
-fn answer<'a>(sheet: &'a Sheet, message: &'a [u8], list: &mut [u8]) -> Result<Answer, Fault>
-    requires { 10240 ≤ length list.old }
+fn answer<'a>(sheet: &'a Sheet, message: &'a [u8], list: &mut [u8; 10240]) -> Result<Answer, Fault>
     ensures { Reply sheet.now message.now (line_of list.new result) }
 {
     let mut pile = pile(sheet, message)?;

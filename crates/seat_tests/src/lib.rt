@@ -3,9 +3,8 @@
 
 use faults::Fault;
 use grammar::sheet::Sheet;
-use seats::hearing::hear;
-use sheets::load::load;
-use sources::pile::pile;
+use seats::hearing::hear_message;
+use sheets::load;
 
 #[cfg(test)]
 mod garbage;
@@ -23,9 +22,7 @@ pub const ROW: &[u8] = b"rule\t0\tA\tA\tx\nrule\t0\tA\tx\nfiller\tplease\n";
 
 // The sheet of a text that loads; the blank one of any other.
 pub(crate) fn sheet_of(text: &[u8]) -> Sheet {
-    let mut sheet = Sheet::blank();
-    let _ = load(text, &mut sheet);
-    sheet
+    load::sheet_of(text).unwrap_or_else(|_| Sheet::blank())
 }
 
 // An answer by its number and place, or the count with the number 0.
@@ -43,8 +40,5 @@ pub(crate) fn heard<'a>(
     seat: usize,
     message: &'a [u8],
 ) -> (u8, usize, u8) {
-    match pile(sheet, message) {
-        Ok(mut source) => told(hear(sheet, hall, seat, &mut source)),
-        Err(fault) => told(Err(fault)),
-    }
+    told(hear_message(sheet, hall, seat, message))
 }

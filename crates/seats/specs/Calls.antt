@@ -1,16 +1,18 @@
 -- The contracts of the calls at a hall. Assumes nothing.
-use Rattle.std.specs.Prelude.{◌≡◌, ℕ, ◌+◌, ◌<◌, true, ◌≢◌, ◌⊎◌, ◌↔◌, List, [], ◌∷◌, length, drop, Ok, Err, Result, count_ones}
+use Rattle.std.specs.Prelude.{◌≡◌, ℕ, ◌+◌, ◌<◌, ◌≤◌, true, ◌≢◌, ◌⊎◌, ◌↔◌, List, [], ◌∷◌, length, drop, Ok, Err, Result, count_ones}
 use Rattle.std.specs.Borrow.{Bor}
 use Rattle.faults.specs.declared.Fault.{Fault}
 use Rattle.faults.specs.declared.Refusal.{Refusal}
-use Rattle.faults.specs.declared.Refusal.TheVariants.{NoSuchSeat, BrokenRecord, LeadsNowhere}
-use Rattle.faults.specs.Faults.{Told, told}
+use Rattle.faults.specs.declared.Refusal.TheVariants.{MessageTooLong, NoSuchSeat, BrokenRecord, LeadsNowhere}
+use Rattle.faults.specs.declared.Layer.TheVariants.{Text as TextLayer}
+use Rattle.faults.specs.Faults.{Told, told, met}
 use Rattle.items.specs.Members.{bit}
 use Rattle.grammar.specs.declared.sheet.Sheet.{Sheet}
 use Rattle.grammar.specs.View.{grammar_of}
+use Rattle.sources.specs.Piles.{piled}
 use Rattle.tables.specs.Table.{Offered}
 use Rattle.seats.specs.Seats.{Listed, Seat, Whole, seat, Apart}
-use Rattle.seats.specs.Standing.{Call, Kept}
+use Rattle.seats.specs.Standing.{Call, Kept, hear_at}
 use Rattle.seats.specs.Answers.{fault, Refuses, Does}
 
 -- the hall has its length, and the seat is one of its four
@@ -57,6 +59,11 @@ pub record Anew (s : Sheet) (k : ℕ) (c : Call) (hall : List ℕ) (r : Result �
 -- what the calls before it left, a call keeps
 abbrev pub Keeps : Sheet → Call → List ℕ → List ℕ → Type 0
 Keeps s c hall hall' = (cs : List Call) → Kept s cs hall → Kept s (c ∷ cs) hall'
+
+-- what is heard of a message through the server's pile; one that is too long is not heard at all
+pub data MessageHeard (s : Sheet) (k : ℕ) (message hall : List ℕ) (r : Result ℕ Told) (hall' : List ℕ) : Type 0 where
+  too_long : 512 < length message → r ≡ Err (met MessageTooLong 0 TextLayer) → hall' ≡ hall → MessageHeard s k message hall r hall'
+  heard : length message ≤ 512 → (rest : Call) → Anew s k (hear_at k (piled s message)) hall r hall' rest → Keeps s (hear_at k (piled s message)) hall hall' → MessageHeard s k message hall r hall'
 
 -- the set bits of a list of numbers
 abbrev pub ones_of : List ℕ → ℕ

@@ -39,6 +39,15 @@ fn read_lines(text: &[u8]) -> Result<Draft, Fault>
     Ok(draft)
 }
 
+// The sheet that the text means.
+pub fn sheet_of(text: &[u8]) -> Result<Sheet, Fault>
+    ensures { elim result [ Ok sheet ↦ Loaded text.now sheet | Err fault ↦ Refused text.now (told fault) ] }
+{
+    let mut sheet = Sheet::blank();
+    load(text, &mut sheet)?;
+    Ok(sheet)
+}
+
 // The sheet that the text means takes this one's place; a refusal leaves it.
 pub fn load(text: &[u8], sheet: &mut Sheet) -> Result<(), Fault>
     ensures { elim result [ Ok u ↦ Loaded text.now sheet.new | Err f ↦ Refused text.now (told f) × (sheet.new ≡ sheet.old) ] }

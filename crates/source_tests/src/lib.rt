@@ -3,7 +3,7 @@
 
 use faults::Fault;
 use grammar::sheet::Sheet;
-use sheets::load::load;
+use sheets::load::sheet_of;
 use sources::pile::pile;
 use sources::source::Source;
 use std::alloc::{AllocError, Global};
@@ -17,9 +17,7 @@ pub const TEXT: &[u8] =
 
 // A sheet with aliases and fillers; the blank one where the text were refused.
 pub(crate) fn sample() -> Sheet {
-    let mut sheet = Sheet::blank();
-    let _ = load(TEXT, &mut sheet);
-    sheet
+    sheet_of(TEXT).unwrap_or_else(|_| Sheet::blank())
 }
 
 // How a source ends: one way more than a Result has.

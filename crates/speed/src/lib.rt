@@ -8,21 +8,11 @@ use reader::read::read;
 use readings::read::Reading;
 use readings::scale::{Points, Scale, Worst};
 use seats::calls::{open, say};
-use seats::hearing::hear;
-use sheets::load::load;
-use sources::alias::Alias;
-use sources::filler::Filler;
-use sources::pile::pile;
-use sources::text::Text;
+use seats::hearing::hear_message;
+use sheets::load::sheet_of;
 
 fn answered(res: Result<usize, Fault>) -> u64 {
     res.map_or(u64::MAX, |count| count as u64)
-}
-
-fn sheet_of(text: &[u8]) -> Result<Sheet, Fault> {
-    let mut sheet = Sheet::blank();
-    load(text, &mut sheet)?;
-    Ok(sheet)
 }
 
 // Loads the sheet many times over; how many words it has.
@@ -66,12 +56,6 @@ pub extern "C" fn say_rounds(text: &[u8], words: &[u8], hall: &mut [u64], rounds
     standing
 }
 
-// Hears a message at the first seat; how many words stand.
-fn hear_once<'a>(sheet: &'a Sheet, message: &'a [u8], hall: &mut [u64]) -> Result<usize, Fault> {
-    let mut source = pile(sheet, message)?;
-    hear(sheet, hall, 0, &mut source)
-}
-
 // Hears a message many times over; how many words stand.
 #[unsafe(no_mangle)]
 pub extern "C" fn hear_rounds(text: &[u8], message: &[u8], hall: &mut [u64], rounds: u32) -> u64 {
@@ -80,7 +64,7 @@ pub extern "C" fn hear_rounds(text: &[u8], message: &[u8], hall: &mut [u64], rou
     };
     let mut standing = 0;
     for _ in 0..rounds {
-        standing = answered(hear_once(&sheet, message, hall));
+        standing = answered(hear_message(&sheet, hall, 0, message));
     }
     standing
 }
@@ -108,7 +92,7 @@ where
     };
     let mut answer = 0;
     for _ in 0..rounds {
-        let _ = hear_once(&sheet, message, hall);
+        let _ = hear_message(&sheet, hall, 0, message);
         answer = read::<C>(&sheet, hall, 0, list, prices, numbers).map_or(u64::MAX, packed);
     }
     answer

@@ -1,11 +1,12 @@
 // A batch of cases: each is answered anew by the library, and compared with what is written.
 use super::decoding::decoded;
-use super::seat_lines::{hear_codes, hear_message, push_heard};
+use super::seat_lines::{hear_codes, push_heard};
 use super::sheet_lines::{push_fault, push_sheet};
 use super::views::View;
 use faults::Fault;
 use grammar::sheet::Sheet;
 use seats::calls::open;
+use seats::hearing::hear_message;
 use sheets::load::load;
 use std::alloc::{AllocError, Global};
 use std::io;

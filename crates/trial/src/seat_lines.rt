@@ -6,11 +6,7 @@ use faults::Fault;
 use grammar::sheet::Sheet;
 use seats::calls::{held, offer};
 use seats::hearing::hear;
-use sources::alias::Alias;
 use sources::codes::Codes;
-use sources::filler::Filler;
-use sources::pile::pile;
-use sources::text::Text;
 use std::alloc::{AllocError, Global};
 
 fn push_words(out: &mut String, words: &[u64]) -> Result<(), AllocError> {
@@ -48,17 +44,6 @@ fn push_answer(out: &mut String, answer: Result<usize, Fault>) -> Result<(), All
         Ok(count) => writeln!(out, "heard {count}"),
         Err(fault) => push_fault(out, fault),
     }
-}
-
-// Hears a message through the pile; one that is too long is not heard.
-pub(crate) fn hear_message<'a>(
-    sheet: &'a Sheet,
-    hall: &mut [u64],
-    seat: usize,
-    message: &'a [u8],
-) -> Result<usize, Fault> {
-    let mut pile = pile(sheet, message)?;
-    hear(sheet, hall, seat, &mut pile)
 }
 
 pub(crate) fn hear_codes(

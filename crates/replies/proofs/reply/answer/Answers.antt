@@ -5,7 +5,7 @@ use Rattle.replies.proofs.reply.answer.Goals as goal
 pub read_both-requires : goal.read_both-requires
 read_both-requires c =
     let x = c.in_ok-hear.ensures.made.exact (search rules, lit< tt) in
-    record { long = search rules; room = c.requires; seated = (x.0, x.2) }
+    record { long = search rules; seated = (x.0, x.2) }
 
 pub returns-in_err-hear : goal.returns-in_err-hear
 returns-in_err-hear c =

@@ -5,4 +5,4 @@ use Rattle.replies.proofs.reply.read_by.Goals as goal
 pub returns : goal.returns
 returns g c = λ ws seated.
     read_by_scale c.args.sheet.now g.C.Scale.measure ws _ _ c.read.result
-    (c.read.ensures.exact (c.requires.long, lit< tt) (record { list = c.requires.room.0; prices = c.requires.room.1; numbers = search rules }) ws seated)
+    (c.read.ensures.exact (c.requires, lit< tt) (record { list = search rules; prices = search rules; numbers = search rules }) ws seated)

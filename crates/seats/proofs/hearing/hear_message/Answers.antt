@@ -2,9 +2,8 @@ use Rattle.std.proofs.Common.{subst}
 use Rattle.faults.specs.Faults.{telling}
 use Rattle.sources.specs.Values.{pile_means}
 use Rattle.seats.specs.Standing.{hear_at}
-use Rattle.seats.specs.Calls.{Anew, Keeps}
-use Rattle.beachwhisk.specs.Calls.{heard}
-use Rattle.beachwhisk.proofs.hall.hear_message.Goals as goal
+use Rattle.seats.specs.Calls.{Anew, Keeps, heard}
+use Rattle.seats.proofs.hearing.hear_message.Goals as goal
 
 pub returns : goal.returns
 returns c =
