@@ -1,8 +1,6 @@
 -- Sets that grow by a step until it adds nothing.
-use Rattle.std.proofs.Common.{◌≡◌, ℕ, ◌+◌, ◌<◌, ◌≤◌, true, List, length, sym, ◌∙◌, subst, ⊎_elim, arith}
-use Rattle.std.proofs.lemmas.Bool.{cases_lt, or_cases, or_left, or_right}
-use Rattle.std.specs.Prelude.{slice_index_or}
-use Rattle.grammar.specs.Dotted.{no_items}
+use Rattle.std.proofs.Common.{◌≡◌, ℕ, ◌+◌, ◌<◌, true, List, length, sym, ◌∙◌, subst, ⊎_elim, arith}
+use Rattle.std.proofs.lemmas.Bool.{or_cases, or_left, or_right}
 use Rattle.grammar.specs.declared.Symbol.TheVariants.{Name}
 use Rattle.grammar.specs.Grammar.{Grammar, rule, right}
 use Rattle.tables.specs.Table.{At}
@@ -11,7 +9,7 @@ use Rattle.tables.specs.inner.Sets.{Fitting, Named, Spot, Marked, Within, Skips,
 use Rattle.grammar.specs.declared.masks.Masks.{Masks}
 use Rattle.tables.specs.inner.Related.{Related}
 use Rattle.tables.specs.inner.Growth.{Union, Into, From, Stepped, Crosses, Opens, Grown, as_is, and_made, Saturated}
-use Rattle.items.specs.Members.{member, Common}
+use Rattle.items.specs.Members.{member}
 use Rattle.items.specs.declared.Items.{Items}
 use Rattle.tables.proofs.Spots.{place_low, next_skip, next_name, next_open}
 
@@ -184,23 +182,6 @@ open_all g room us {Makes} {vs} {zs} first f s =
     last.asks last.skipped s.still)
 
 -- ---- sets chosen by what they meet
-
--- one pair more, of a key and a value, which more has if the set meets the key
-pub related_more : (keys values : List Items) (xs ys more zs : List ℕ) (n : ℕ) (key value : Items) → key ≡ slice_index_or keys n no_items → value ≡ slice_index_or values n no_items → Related keys values xs ys n → (Common xs key.words → Within value.words more) → ((d : ℕ) → d < 256 → member more d ≡ true → Common xs key.words × (member value.words d ≡ true)) → Union ys more zs → Related keys values xs zs (n + 1)
-related_more keys values xs ys more zs n key value k v r into from u = record {
-  into = λ d h c. ⊎_elim
-      (λ (o : c.at < n). left_in ys more zs u d h (r.into d h (record { at = c.at; low = o; common = c.common; has = c.has })))
-      (λ (o : n ≤ c.at).
-      let same : c.at ≡ n = omega (arith, c.low) in
-      right_in ys more zs u d h
-      (into (subst (λ (s : Items). Common xs s.words) (sym k) (subst (λ (a : ℕ). Common xs (set_at keys a)) same c.common)) d h
-      (subst (λ (s : Items). member s.words d ≡ true) (sym v) (subst (λ (a : ℕ). member (set_at values a) d ≡ true) same c.has))))
-      (cases_lt c.at n);
-  from = λ d h e. ⊎_elim
-      (λ (o : member ys d ≡ true). let c = r.from d h o in record { at = c.at; low = omega (arith, c.low); common = c.common; has = c.has })
-      (λ (o : member more d ≡ true). let c = from d h o in record { at = n; low = omega arith; common = subst (λ (s : Items). Common xs s.words) k c.0; has = subst (λ (s : Items). member s.words d ≡ true) v c.1 })
-      (or_cases (member ys d) (member more d) (sym (u d) ∙ e));
-}
 
 pub related_over : (g : Grammar) (m : Masks) → Marked g m → (xs ys : List ℕ) → (names : ℕ) → Named g names → Related m.last m.before_name xs ys names → Over g xs ys
 related_over g m t xs ys names n r = record {

@@ -12,7 +12,7 @@ pub(crate) fn joint(table: &[u64; 924], n: usize) -> Items
     ensures { Joint table.now n (n + 1) result.words }
 {
     let mut set = Items::none();
-    for i in 0..=n {
+    for i in 0..n + 1 {
         set = set.or(load(table, i, n));
     }
     set

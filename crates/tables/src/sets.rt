@@ -26,9 +26,10 @@ fn relate(keys: &[Items; 32], values: &[Items; 32], n: usize, items: Items) -> I
     requires { n ≤ 32 }
     ensures { Related keys.now values.now items.words result.words n }
 {
+    // By index: over a `zip` the fill of a column takes a third longer.
     let mut set = Items::none();
-    for (key, value) in keys[..n].iter().zip(values) {
-        set = set.or(chosen(items, *key, *value));
+    for a in 0..n {
+        set = set.or(chosen(items, keys[a], values[a]));
     }
     set
 }
