@@ -1,4 +1,5 @@
 // The calls at a hall. Each loads the sheet from its text first: its refusals come before all others.
+// Calls that differ only in the call they make stay apart: each is a name and a list of parameters for C.
 ghost use Rattle.std.specs.Prelude.{◌≡◌, ℕ, Result};
 ghost use Rattle.faults.specs.Faults.{Told};
 ghost use Rattle.beachwhisk.specs.Told.{answer_of};

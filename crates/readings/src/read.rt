@@ -14,7 +14,7 @@ use super::spot::Spot;
 use super::walk::{Progress, write_form};
 use grammar::sheet::Sheet;
 
-// A written form's length, and its tree's price.
+// A written form's length, and its tree's price: the form stands in memory that the caller lends, so its length goes by itself.
 #[derive(Clone, Copy)]
 pub struct Reading<P> {
     pub length: usize,

@@ -1,5 +1,6 @@
 // The calls at a hall of four seats, but for hearing a source.
 // Each splits its seat off by itself: a seat that a function returned would not be followed back to the hall.
+// Sheet, hall and seat stay three: a hall is lent for change or for a look, and a server hands over each by itself.
 ghost use Rattle.std.specs.Prelude.{◌≡◌, [], ◌∷◌, length};
 ghost use Rattle.faults.specs.Faults.{telling};
 ghost use Rattle.seats.specs.Standing.{Kept, open_all, clear_at, say_at, back_at};

@@ -11,7 +11,7 @@ use grammar::sheet::Sheet;
 use items::few::holds;
 use tables::{fill_column, offer};
 
-// A fault of the seats' layer.
+// A fault of the seats' layer; `Fault::new` is for any.
 pub(crate) fn refused(refusal: Refusal, place: usize) -> Fault
     ensures { told result ≡ fault refusal place }
 {

@@ -15,6 +15,7 @@ use grammar::sheet::Sheet;
 // The longest text of a sheet.
 const LONGEST: usize = 16384;
 
+// A fault of the loader; `Fault::new` is for any layer.
 fn refused(refusal: Refusal, place: usize) -> Fault
     ensures { told result ≡ met refusal place Load }
 {

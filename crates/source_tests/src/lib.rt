@@ -32,7 +32,7 @@ fn faulty(fault: Fault) -> Ending {
     Ending::Fault(fault.refusal.number(), fault.place, fault.layer.number())
 }
 
-// The words and places of a source, and its ending; a message has fewer words than bytes.
+// The words and places of a source, and its ending; a message has fewer words than bytes, so a count ends the loop.
 pub(crate) fn drain<S: Source + Drop>(
     heap: Global,
     mut source: S,

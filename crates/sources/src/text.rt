@@ -65,6 +65,7 @@ fn find(words: &[Spelling], run: &[u8]) -> Option<u8>
     place.map(|i| i as u8)
 }
 
+// A fault of the text's layer; `Fault::new` is for any.
 fn refused(refusal: Refusal, place: usize) -> Fault
     ensures { told result ≡ met refusal place TextLayer }
 {

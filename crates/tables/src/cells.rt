@@ -1,4 +1,5 @@
 // The cells of a table: four numbers each, column after column.
+// A cell's two numbers stay two: a struct of them would be made for each call and taken apart in it.
 ghost use Rattle.std.specs.Prelude.{◌≡◌, ◌<◌};
 ghost use Rattle.tables.specs.Columns.{cell, cell_of};
 ghost use Rattle.tables.specs.inner.Cells.{InTable, Stored};

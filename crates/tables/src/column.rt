@@ -27,6 +27,7 @@ impl<'a> NextColumn<'a> {
     {
         let word = self.sheet.masks().before_word[self.w as usize];
         let mut set = load(table, i, self.j - 1).step(word);
+        // By number: m picks a cell of the table and what stands over it.
         for m in i + 1..self.j {
             set = set.or(load(table, i, m).step(overs[m]));
         }

@@ -34,7 +34,7 @@ fn relate(keys: &[Items; 32], values: &[Items; 32], n: usize, items: Items) -> I
     set
 }
 
-// The places with their dot before a name that is complete in the set.
+// The places with their dot before a name that is complete in the set. This and the next only name the masks of `relate`.
 pub(crate) fn over(sheet: &Sheet, items: Items) -> Items
     ensures { Over (grammar_of sheet.now) items.words result.words }
 {

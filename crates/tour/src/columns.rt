@@ -1,4 +1,5 @@
 // What is printed of a seat as its table fills.
+// The hall is lent for change in some functions and for a look in others, so it goes beside the sheet and in no struct.
 use super::overview::{show_dotted, show_numbered};
 use grammar::Rule;
 use grammar::sheet::Sheet;

@@ -19,7 +19,7 @@ impl Price {
         }
     }
 
-    // The cheaper on each scale.
+    // The cheaper on each scale; no order of prices, since one may be cheaper on one scale alone.
     fn lower(self, other: Price) -> Price {
         Price {
             points: self.points.min(other.points),
