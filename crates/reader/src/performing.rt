@@ -66,9 +66,8 @@ pub fn perform<T: Source, C: Scale>(
     ensures { Performed T.Source.meaning sheet.now C.Scale.measure seat hall.old turns.old (record { list = list.old; prices = prices.old; numbers = numbers.old }) (telling result) hall.new turns.new (record { list = list.new; prices = prices.new; numbers = numbers.new }) }
 {
     open(sheet, hall)?;
-    // By index: of turns that `iter_mut` lent out, only the length is known.
-    for i in 0..turns.len() {
-        take_turn(sheet, hall, &mut turns[i]);
+    for turn in turns.iter_mut() {
+        take_turn(sheet, hall, turn);
     }
     read::<C>(sheet, hall, seat, list, prices, numbers)
 }

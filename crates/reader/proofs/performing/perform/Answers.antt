@@ -6,17 +6,17 @@ use Rattle.reader.proofs.Answering.{opened_fits}
 use Rattle.reader.proofs.Turns.{so_far_none, so_far_more, all_kept, all_answered, read_after, performed_not}
 use Rattle.reader.proofs.performing.perform.Goals as goal
 
-pub loop-i-init : goal.loop-i-init
-loop-i-init g c =
+pub loop-turn-init : goal.loop-turn-init
+loop-turn-init g c =
     let s = c.args.sheet.now in
     let e = c.in_ok-open.ensures in
     let fits = opened_fits s c.args.hall.now c.in_ok-open.field-0 c.open.new.hall e.opened in
     so_far_none g.T.Source.meaning s c.args.turns.now c.open.new.hall (e.first fits)
 
-pub loop-i-preserved : goal.loop-i-preserved
-loop-i-preserved g c =
-    let l = c.loop-i in
-    so_far_more g.T.Source.meaning c.args.sheet.now c.args.turns.now l.i l.turns l.hall l.invariant c.index-turns-i.result c.take_turn.new.turn c.take_turn.new.hall (omega arith) c.take_turn.ensures
+pub loop-turn-preserved : goal.loop-turn-preserved
+loop-turn-preserved g c =
+    let l = c.loop-turn in
+    so_far_more g.T.Source.meaning c.args.sheet.now c.args.turns.now l.turn-index l.turns l.hall l.invariant c.turn-item.result c.take_turn.new.turn c.take_turn.new.hall (omega arith) c.take_turn.ensures
 
 pub returns-in_err-open : goal.returns-in_err-open
 returns-in_err-open g c =
@@ -31,14 +31,14 @@ returns g c =
     let means = g.T.Source.meaning in
     let s = c.args.sheet.now in
     let turns = c.args.turns.now in
-    let l = c.loop-i in
+    let l = c.loop-turn in
     let last = c.read.new in
     let fits = opened_fits s c.args.hall.now c.in_ok-open.field-0 c.open.new.hall c.in_ok-open.ensures.opened in
-    let kept = all_kept means s turns l.i l.turns l.hall l.invariant (omega arith) in
+    let kept = all_kept means s turns l.turn-index l.turns l.hall l.invariant (omega arith) in
     record {
       no_hall = λ ne. absurd (ne fits);
       kept = λ e. kept;
-      answers = λ e. all_answered means s turns l.i l.turns l.hall l.invariant (omega arith);
+      answers = λ e. all_answered means s turns l.turn-index l.turns l.hall l.invariant (omega arith);
       reading = λ e. read_after s g.C.Scale.measure (calls_of means turns) c.args.seat l.hall
           (record { list = c.args.list.now; prices = c.args.prices.now; numbers = c.args.numbers.now }) (telling c.read.result)
           (record { list = last.list; prices = last.prices; numbers = last.numbers }) kept c.read.ensures;
