@@ -1,4 +1,4 @@
-// Reads a seat, on points or on worst.
+// Reads a seat, on points or on worst: two exports, since each is a name and a list of parameters for C.
 ghost use Rattle.std.specs.Prelude.{◌≡◌, ℕ, Result};
 ghost use Rattle.faults.specs.Faults.{Told, telling};
 ghost use Rattle.readings.specs.declared.read.Reading.{Reading};

@@ -1,9 +1,7 @@
 // What a command sheet holds: rules over names and words, and the sheet type that keeps them in order.
 #![tactic(auto)]
 
-ghost use Rattle.std.specs.Prelude.{◌≡◌, ◌≤◌, ⊤, take};
-
-use std::alloc::AllocError;
+ghost use Rattle.std.specs.Prelude.{◌≡◌, take};
 
 mod closure;
 pub mod draft;
@@ -40,22 +38,10 @@ impl Rule {
 }
 
 // The bytes of a name or a word: the first `len`. With no heap, it is copied whole.
-#[derive(Copy)]
+#[derive(Clone, Copy)]
 pub struct Spelling {
     pub len: u8,
     pub bytes: [u8; 15],
-    ghost short: { len ≤ 15 },
-}
-
-// No derive reaches over a ghost field.
-impl Clone for Spelling {
-    ghost is_clone = { λ x y. y ≡ x };
-
-    ghost is_infallible = { λ _. ⊤ };
-
-    fn clone(&self) -> Result<Spelling, AllocError> {
-        Ok(*self)
-    }
 }
 
 impl Spelling {
@@ -68,7 +54,7 @@ impl Spelling {
     pub fn as_bytes(&self) -> &[u8]
         ensures { result.now ≡ take self.now.len self.now.bytes }
     {
-        &self.bytes[..self.len as usize]
+        &self.bytes[..self.len.min(15) as usize]
     }
 }
 

@@ -1,5 +1,5 @@
 // The table: of each name over each stretch a price, a rank and a rule.
-// A name is below 32 by what its rule says, and a stretch to be filled is in its loop's range: no value carries either bound.
+// To be written, the table is lent whole, so a place in it comes as numbers; a `Stretch` is what is read. A name is below 32 by what its rule says.
 ghost use Rattle.std.specs.Prelude.{◌≡◌, ℕ, ◌+◌, ◌-◌, ◌/◌, ◌%◌, ◌<◌, ◌≤◌};
 ghost use Rattle.readings.specs.inner.Tables.{Adds};
 ghost use Rattle.readings.specs.inner.Places.{place, tabled, table};

@@ -41,7 +41,7 @@ pub fn open(sheet: &Sheet, hall: &mut [u64]) -> Result<usize, Fault>
     ensures kept { Keeps sheet.now open_all hall.old hall.new }
 {
     find(hall, 0)?;
-    // By number: of a hall that `chunks_exact_mut` lent out, only the length is known.
+    // By number: nothing is said of what a hall ends as after `chunks_exact_mut` or `as_chunks_mut`.
     for k in 0..4 {
         let (_, rest) = hall.split_at_mut(945 * k);
         vacate(sheet, rest.first_chunk_mut().unwrap());

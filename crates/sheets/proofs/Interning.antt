@@ -12,7 +12,7 @@ use Rattle.std.proofs.lemmas.Bool.{cases_Bool, cases_lt, or_left, or_right, or_f
 use Rattle.grammar.specs.declared.Spelling.{Spelling}
 use Rattle.grammar.specs.declared.shelf.Shelf.{Shelf}
 use Rattle.grammar.specs.declared.shelf.Full.{Full}
-use Rattle.grammar.specs.Limits.{no_spelling, text, texts, Lettered, Apart}
+use Rattle.grammar.specs.Limits.{no_spelling, text, texts, Lettered, Brief, Apart}
 use Rattle.sheets.specs.Spellings.{member}
 use Rattle.sheets.specs.inner.Interns.{Interned, Crowded, Enters}
 use Rattle.sheets.proofs.Apartness.{apart_one}
@@ -37,11 +37,11 @@ member_none i (x ∷ xs) s e = elim (cases_Bool (alike s x)) [
 pub unlisted : (xs : List Spelling) (s : List ℕ) → position (alike s) xs ≡ None → member s (map text xs) ≡ false
 unlisted xs s e = member_none 0 xs s (sym (position_from-zero (alike s) xs) ∙ e)
 
--- a text is no longer than a spelling may be
-text_short : (p : Spelling) → length (text p) ≤ 15
-text_short p = omega (arith, length-take p.len p.bytes, p.short)
+-- a text is no longer than its spelling says
+text_short : (p : Spelling) → p.len ≤ 15 → length (text p) ≤ 15
+text_short p small = omega (arith, length-take p.len p.bytes)
 
-module _ (xs : List Spelling) (n : ℕ) (s : List ℕ) (whole : length (take n xs) ≡ n) where
+module _ (xs : List Spelling) (n : ℕ) (s : List ℕ) (whole : length (take n xs) ≡ n) (brief : Brief n xs) where
   total : length (texts n xs) ≡ n
   total = length-map (take n xs) text ∙ whole
 
@@ -56,13 +56,27 @@ module _ (xs : List Spelling) (n : ℕ) (s : List ℕ) (whole : length (take n x
         counted = (let l = at.0 in omega arith);
         grown = omega arith;
         total = total;
-        short = subst (λ t. length t ≤ 15) e (text_short (get_or (take n xs) k no_spelling));
+        short =
+            let l : k < n = (let l = at.0 in omega arith) in
+            subst (λ t. length t ≤ 15) e (text_short (get_or (take n xs) k no_spelling) (subst (λ (q : Spelling). q.len ≤ 15) (sym (get_or-take n xs k no_spelling l)) (brief k l)));
+        brief = brief;
         each = λ j h. inl (h, refl);
       }
 
+  -- with one more at the end, each before it stays, and it stands last
+  kept : (ys : List Spelling) (m : ℕ) (p : Spelling) → take m ys ≡ take n xs ++ (p ∷ []) → (j : ℕ) → j < m → j < n → get_or ys j no_spelling ≡ get_or xs j no_spelling
+  kept ys m p more j h l =
+      let front : j < length (take n xs) = omega arith in
+      sym (get_or-take m ys j no_spelling h) ∙ ap (λ l. get_or l j no_spelling) more ∙ get_or_append_left (take n xs) (p ∷ []) no_spelling j front ∙ get_or-take n xs j no_spelling l
+
+  put : (ys : List Spelling) (m : ℕ) (p : Spelling) → take m ys ≡ take n xs ++ (p ∷ []) → m ≡ n + 1 → (j : ℕ) → j < m → n ≤ j → get_or ys j no_spelling ≡ p
+  put ys m p more one j h l =
+      let last : length (take n xs) ≡ j = omega arith in
+      sym (get_or-take m ys j no_spelling h) ∙ ap (λ l. get_or l j no_spelling) more ∙ get_or_push (take n xs) p no_spelling j last
+
   -- a new one
-  pub interned_new : (ys : List Spelling) (m : ℕ) (p : Spelling) → take m ys ≡ take n xs ++ (p ∷ []) → m ≡ n + 1 → text p ≡ s → member s (texts n xs) ≡ false → Interned xs n s n m ys
-  interned_new ys m p more one e none =
+  pub interned_new : (ys : List Spelling) (m : ℕ) (p : Spelling) → take m ys ≡ take n xs ++ (p ∷ []) → m ≡ n + 1 → text p ≡ s → p.len ≤ 15 → member s (texts n xs) ≡ false → Interned xs n s n m ys
+  interned_new ys m p more one e small none =
       let pushed : texts m ys ≡ texts n xs ++ (s ∷ []) = ap (map text) more ∙ map_push text (take n xs) p ∙ ap (λ t. texts n xs ++ (t ∷ [])) e in
       record {
         listed = pushed ∙ sym (cond-false (member s (texts n xs)) _ _ none);
@@ -70,14 +84,14 @@ module _ (xs : List Spelling) (n : ℕ) (s : List ℕ) (whole : length (take n x
         counted = omega arith;
         grown = omega arith;
         total = ap length pushed ∙ length-append (texts n xs) (s ∷ []) ∙ (let t = total in omega arith);
-        short = subst (λ t. length t ≤ 15) e (text_short p);
+        short = subst (λ t. length t ≤ 15) e (text_short p small);
+        brief = λ j h. elim (cases_lt j n) [
+          | inl l ↦ subst (λ (q : Spelling). q.len ≤ 15) (sym (kept ys m p more j h l)) (brief j l)
+          | inr l ↦ subst (λ (q : Spelling). q.len ≤ 15) (sym (put ys m p more one j h l)) small
+        ];
         each = λ j h. elim (cases_lt j n) [
-          | inl l ↦
-              let front : j < length (take n xs) = omega arith in
-              inl (l, sym (get_or-take m ys j no_spelling h) ∙ ap (λ l. get_or l j no_spelling) more ∙ get_or_append_left (take n xs) (p ∷ []) no_spelling j front ∙ get_or-take n xs j no_spelling l)
-          | inr l ↦
-              let last : length (take n xs) ≡ j = omega arith in
-              inr (ap text (sym (get_or-take m ys j no_spelling h) ∙ ap (λ l. get_or l j no_spelling) more ∙ get_or_push (take n xs) p no_spelling j last) ∙ e)
+          | inl l ↦ inl (l, kept ys m p more j h l)
+          | inr l ↦ inr (ap text (put ys m p more one j h l) ∙ e)
         ];
       }
 
@@ -104,6 +118,10 @@ module _ {N : ℕ} (old new : Shelf Spelling N) (s : List ℕ) where
   pub lettered_entered : (r : Result ℕ Full) → Enters old s r new → (test : List ℕ → Bool) → Lettered test old.len old.items → test s ≡ true → Lettered test new.len new.items
   lettered_entered (Ok k) h test all ok = lettered_with h test all ok
   lettered_entered (Err e) h test all ok = subst (λ (x : Shelf Spelling N). Lettered test x.len x.items) (sym h.1) all
+
+  pub brief_entered : (r : Result ℕ Full) → Enters old s r new → Brief old.len old.items → Brief new.len new.items
+  brief_entered (Ok k) h all = h.brief
+  brief_entered (Err e) h all = subst (λ (x : Shelf Spelling N). Brief x.len x.items) (sym h.1) all
 
   pub apart_entered : (r : Result ℕ Full) → Enters old s r new → ∥ Apart (texts old.len old.items) ∥₁ → ∥ Apart (texts new.len new.items) ∥₁
   apart_entered (Ok k) h all = apart_with h all

@@ -1,6 +1,6 @@
 // Spellings, kept once each.
 ghost use Rattle.std.specs.Prelude.{◌≡◌, ◌<◌, ◌≤◌, length, position, bytes_eq, Ok, Err};
-ghost use Rattle.grammar.specs.Limits.{text};
+ghost use Rattle.grammar.specs.Limits.{text, Brief};
 ghost use Rattle.sheets.specs.inner.Interns.{Enters};
 
 use grammar::Spelling;
@@ -8,7 +8,7 @@ use grammar::shelf::{Full, Shelf};
 
 // The spelling; there is no room for more than 15 bytes.
 fn spell(bytes: &[u8]) -> Result<Spelling, Full>
-    ensures { elim result [ Ok p ↦ text p ≡ bytes.now | Err e ↦ 15 < length bytes.now ] }
+    ensures { elim result [ Ok p ↦ (text p ≡ bytes.now) × (p.len ≤ 15) | Err e ↦ 15 < length bytes.now ] }
 {
     if bytes.len() > 15 {
         return Err(Full);
@@ -35,7 +35,8 @@ pub(crate) fn intern<const N: usize>(
     spellings: &mut Shelf<Spelling, N>,
     bytes: &[u8],
 ) -> Result<u8, Full>
-    requires { N ≤ 255 }
+    requires few { N ≤ 255 }
+    requires brief { Brief spellings.old.len spellings.old.items }
     ensures { Enters spellings.old bytes.now result spellings.new }
 {
     if let Some(k) = find(spellings.as_slice(), bytes) {

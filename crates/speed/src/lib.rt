@@ -1,5 +1,5 @@
 // Rounds of calls for the benchmark, over memory that the caller owns. A refusal is answered by the largest number:
-// C takes one number.
+// C takes one number. Rounds that differ only in the scale are two exports, each a name and a list of parameters for C.
 #![tactic(auto)]
 
 use faults::Fault;

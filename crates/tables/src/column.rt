@@ -61,6 +61,7 @@ impl<'a> NextColumn<'a> {
     {
         let mut overs = [Items::none(); 21];
         let mut wants = self.starting();
+        // By number: i picks a cell of the table and what stands over it.
         for i in (0..self.j).rev() {
             let set = self.cell(table, &overs, i);
             store(table, i, self.j, set);

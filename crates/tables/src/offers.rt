@@ -6,7 +6,7 @@ use super::cells::load;
 use grammar::masks::Masks;
 use items::Items;
 
-// The union of the cells of column n: by number, since a column's cells do not lie in a slice of cells.
+// The union of the cells of column n, each loaded by its two numbers.
 pub(crate) fn joint(table: &[u64; 924], n: usize) -> Items
     requires { n ≤ 20 }
     ensures { Joint table.now n (n + 1) result.words }

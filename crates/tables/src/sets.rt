@@ -26,7 +26,7 @@ fn relate(keys: &[Items; 32], values: &[Items; 32], n: usize, items: Items) -> I
     requires { n ≤ 32 }
     ensures { Related keys.now values.now items.words result.words n }
 {
-    // By index: over a `zip` the fill of a column takes a third longer.
+    // By index: over a `zip` a hearing took 25 to 34 per cent longer.
     let mut set = Items::none();
     for a in 0..n {
         set = set.or(chosen(items, keys[a], values[a]));

@@ -11,6 +11,7 @@ pub(crate) fn push_fault(out: &mut String, fault: Fault) -> Result<(), AllocErro
     writeln!(out, "refused {number} {place} {layer}")
 }
 
+// Byte by byte, as bytes of any kind are written.
 fn push_spelling(out: &mut String, spelling: &Spelling) -> Result<(), AllocError> {
     write!(out, " ")?;
     for b in spelling.as_bytes() {

@@ -9,7 +9,7 @@ use Rattle.grammar.specs.declared.shelf.Shelf.{Shelf}
 use Rattle.grammar.specs.declared.shelf.Full.{Full}
 use Rattle.grammar.specs.declared.draft.Draft.{Draft}
 use Rattle.grammar.specs.Letters.{name_spelled, word_spelled}
-use Rattle.grammar.specs.Limits.{no_spelling, text, texts}
+use Rattle.grammar.specs.Limits.{no_spelling, text, texts, Brief}
 use Rattle.sheets.specs.Spellings.{member, with_one}
 
 -- it has number k among the spellings with it
@@ -20,6 +20,7 @@ pub record Interned (before : List Spelling) (n : ℕ) (s : List ℕ) (k m : ℕ
   pub grown : n ≤ m
   pub total : length (texts m after) ≡ m
   pub short : length s ≤ 15
+  pub brief : Brief m after
   -- each is as it was, or the one that is new
   pub each : (j : ℕ) → j < m → ((j < n) × (slice_index_or after j no_spelling ≡ slice_index_or before j no_spelling)) ⊎ (text (slice_index_or after j no_spelling) ≡ s)
 

@@ -4,7 +4,7 @@ use Rattle.grammar.specs.declared.shelf.Full.{Full}
 use Rattle.grammar.specs.Letters.{name_spelled}
 use Rattle.grammar.proofs.Fronts.{formed_among_more}
 use Rattle.sheets.specs.inner.Interns.{Enters, Named, Unnamed}
-use Rattle.sheets.proofs.Interning.{grown_entered, lettered_entered, apart_entered}
+use Rattle.sheets.proofs.Interning.{grown_entered, lettered_entered, brief_entered, apart_entered}
 use Rattle.sheets.proofs.drafts.name_number.Goals as goal
 
 pub invariant_of-draft : goal.invariant_of-draft
@@ -15,8 +15,9 @@ invariant_of-draft c =
     let grown = grown_entered d.names new s c.intern.result c.intern.ensures in
     let formed = formed_among_more d.names.len d.words.len new.len d.words.len grown (omega arith) (take d.rules.len d.rules.items) d.formed in
     let lettered = lettered_entered d.names new s c.intern.result c.intern.ensures name_spelled d.lettered_names c.requires in
+    let brief = brief_entered d.names new s c.intern.result c.intern.ensures d.brief_names in
     let apart = apart_entered d.names new s c.intern.result c.intern.ensures d.apart_names in
-    record { formed = formed; lettered_names = lettered; lettered_words = d.lettered_words; apart_names = apart; apart_words = d.apart_words; aliased = d.aliased; placed = d.placed; filled = d.filled }
+    record { formed = formed; lettered_names = lettered; lettered_words = d.lettered_words; brief_names = brief; brief_words = d.brief_words; apart_names = apart; apart_words = d.apart_words; aliased = d.aliased; placed = d.placed; filled = d.filled }
 
 -- the other fields stay
 named : (d e : Draft) (s : List ℕ) (r : Result ℕ Full) → Enters d.names s r e.names → e.rules ≡ d.rules → e.words ≡ d.words → e.aliases ≡ d.aliases → e.starts ≡ d.starts → e.fillers ≡ d.fillers

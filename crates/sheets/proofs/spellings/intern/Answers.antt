@@ -9,7 +9,7 @@ pub returns-in-Some : goal.returns-in-Some
 returns-in-Some g c =
     let old = c.args.spellings.now in
     let s = c.args.bytes.now in
-    interned_old old.items old.len s old.whole c.in-Some.k (ap (position (alike s)) (sym c.as_slice.ensures) ∙ sym c.find.ensures ∙ c.in-Some.is)
+    interned_old old.items old.len s old.whole c.requires.brief c.in-Some.k (ap (position (alike s)) (sym c.as_slice.ensures) ∙ sym c.find.ensures ∙ c.in-Some.is)
 
 pub overflow_cast-k : goal.overflow_cast-k
 overflow_cast-k g c = let f = c.args.spellings.now.fits in omega arith
@@ -21,7 +21,7 @@ returns-in_err-push g c =
     let none : member s (texts old.len old.items) ≡ false = unlisted (take old.len old.items) s (ap (position (alike s)) (sym c.as_slice.ensures) ∙ sym c.find.ensures ∙ c.in_default.is) in
     let full : old.len ≡ g.row.N = (let f = old.fits in let l = c.in_err-push.ensures.0 in omega arith) in
     let p = err_from_is_err_and c.from_residual-in_err-push.result c.from_residual-in_err-push.ensures.1 in
-    rw p.1 (crowded old.items old.len s old.whole g.row.N full none, c.in_err-push.ensures.1)
+    rw p.1 (crowded old.items old.len s old.whole c.requires.brief g.row.N full none, c.in_err-push.ensures.1)
 
 pub returns : goal.returns
 returns g c =
@@ -29,4 +29,4 @@ returns g c =
     let s = c.args.bytes.now in
     let new = c.push.new.self in
     let none : member s (texts old.len old.items) ≡ false = unlisted (take old.len old.items) s (ap (position (alike s)) (sym c.as_slice.ensures) ∙ sym c.find.ensures ∙ c.in_default.is) in
-    interned_new old.items old.len s old.whole new.items new.len c.in_ok-spell.field-0 c.in_ok-push.ensures.0 c.in_ok-push.ensures.1 c.in_ok-spell.ensures none
+    interned_new old.items old.len s old.whole c.requires.brief new.items new.len c.in_ok-spell.field-0 c.in_ok-push.ensures.0 c.in_ok-push.ensures.1 c.in_ok-spell.ensures.0 c.in_ok-spell.ensures.1 none
