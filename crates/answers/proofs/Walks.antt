@@ -1,5 +1,5 @@
 -- The lines of a front of the input, up to the first empty line.
-use Rattle.std.proofs.Common.{◌&&◌, one-add, add-one, eqb-true, ◌≡◌, ℕ, ◌+◌, Bool, true, false, eqb, ◌⊎◌, List, [], ◌∷◌, ◌++◌, length, take, drop, sym, refl, ap, ◌∙◌, subst, inl, inr, append_assoc, append-nil, arith, eq-eqb, ne_eqb}
+use Rattle.std.proofs.Common.{◌&&◌, one-add, add-one, eqb-true, ◌≡◌, ℕ, ◌+◌, Bool, true, false, eqb, ◌⊎◌, List, [], ◌∷◌, ◌++◌, length, take, drop, slice_index, ◌<◌, sym, refl, ap, ◌∙◌, subst, inl, inr, append_assoc, append-nil, arith, eq-eqb, ne_eqb}
 use Rattle.std.specs.List.{AllByRecursion, zip, position, position_or_len}
 use Rattle.std.specs.Option.{unwrap_or}
 use Rattle.std.proofs.lemmas.Slice.Zip.{length-zip}
@@ -89,11 +89,23 @@ walk front b (c ∷ bs) w = elim (cases_Bool (both_end (b, c))) [
       rw (e, one-add, add-one) (rw add-one at (simp append_assoc at on))
 ]
 
--- the place that the search over pairs of neighbours finds
-pub split_first : (input : List ℕ) (i : ℕ) → i ≡ unwrap_or (position both_end (zip (10 ∷ input) input)) (length input) → Split input (take i input) (drop (i + 1) input)
-split_first input i at =
-    let pairs = zip (10 ∷ input) input in
-    let long : length pairs ≡ length input = simp length-zip (omega arith) in
-    let there : i ≡ empty_place 10 input = at ∙ ap (unwrap_or (position both_end pairs)) (sym long) ∙ place_or_len both_end pairs in
-    let start : Walked [] true = record { full = []; last = []; all_full = tt; unended = tt; is = refl; at_start = λ _. refl; inside = λ f. absurd (grind arith) } in
-    subst (λ k. Split input (take k input) (drop (k + 1) input)) (sym there) (walk [] 10 input start)
+-- before the first byte a line starts
+from_start : (input : List ℕ) → Split input (take (empty_place 10 input) input) (drop (empty_place 10 input + 1) input)
+from_start input = walk [] 10 input (record { full = []; last = []; all_full = tt; unended = tt; is = refl; at_start = λ _. refl; inside = λ f. absurd (grind arith) })
+
+-- the first line is empty, or there is none
+pub split_now : (input : List ℕ) → (0 < length input → slice_index input 0 ≡ 10) → Split input [] (drop 1 input)
+split_now [] e = from_start []
+split_now (b ∷ bs) e = subst (λ x. Split (x ∷ bs) [] bs) (sym (e (omega arith))) (from_start (10 ∷ bs))
+
+-- else it is the place that the search over pairs of neighbours finds
+pub split_later : (input rest : List ℕ) (i : ℕ) → 0 < length input → (slice_index input 0 ≡ 10 → ⊥) → rest ≡ drop 1 input → i ≡ unwrap_or (position both_end (zip input rest)) (length rest)
+    → Split input (take (1 + i) input) (drop (1 + i + 1) input)
+split_later [] rest i l n e at = absurd (omega (arith, l))
+split_later (b ∷ bs) rest i l n e at =
+    let pairs = zip (b ∷ bs) bs in
+    let long : length pairs ≡ length bs = simp length-zip (omega arith) in
+    let found : i ≡ unwrap_or (position both_end pairs) (length bs) = rw e at at in
+    let there : i ≡ empty_place b bs = found ∙ ap (unwrap_or (position both_end pairs)) (sym long) ∙ place_or_len both_end pairs in
+    let one : empty_place 10 (b ∷ bs) ≡ 1 + i = rw (ne_eqb b 10 n) (rw there refl) in
+    subst (λ k. Split (b ∷ bs) (take k (b ∷ bs)) (drop (k + 1) (b ∷ bs))) one (from_start (b ∷ bs))

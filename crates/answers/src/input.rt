@@ -4,17 +4,20 @@ ghost use Rattle.std.specs.List.{position_or_len};
 ghost use Rattle.answers.specs.Input.{Split, Unended};
 ghost use Rattle.answers.specs.inner.Taking.{Taken};
 
-use std::iter;
-
 // The place of the end of the first empty line, or the length: an end of a line after another one, or before all else.
 fn find_empty_line(input: &[u8]) -> usize
     ensures within { result ≤ length input.now }
     ensures split { Split input.now (take result input.now) (drop (result + 1) input.now) }
 {
-    let before = iter::once(b'\n').chain(input.iter().copied());
-    let mut pairs = before.zip(input.iter().copied());
-    let place = pairs.position(|pair| pair == (b'\n', b'\n'));
-    place.unwrap_or(input.len())
+    match input {
+        [] | [b'\n', ..] => 0,
+        [_, rest @ ..] => {
+            // Of two slices: a chain would ask at each byte which of its parts it is at.
+            let mut pairs = input.iter().copied().zip(rest.iter().copied());
+            let place = pairs.position(|pair| pair == (b'\n', b'\n'));
+            1 + place.unwrap_or(rest.len())
+        }
+    }
 }
 
 // The bytes before a place, and those after it, none where nothing stands there.

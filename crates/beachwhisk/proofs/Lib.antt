@@ -1,4 +1,3 @@
 pub mod Alikes
 pub mod SameHalls
-pub mod Sheets
 pub mod Readings

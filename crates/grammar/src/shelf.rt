@@ -1,13 +1,26 @@
 // Items in an array of fixed length, of which the first are in use.
-ghost use Rattle.std.specs.Prelude.{◌≡◌, ◌<◌, ◌≤◌, ◌+◌, [], ◌∷◌, ◌++◌, length, take, Ok, Err};
+ghost use Rattle.std.specs.Prelude.{◌≡◌, ◌<◌, ◌≤◌, ◌+◌, [], ◌∷◌, ◌++◌, length, take, Ok, Err, ⊤};
 
-#[derive(Drop)]
+use std::alloc::AllocError;
+
 pub struct Shelf<T: Copy, const N: usize> {
     pub items: [T; N],
     pub len: usize,
     ghost fits: { len ≤ N },
     ghost whole: { length (take len items) ≡ len },
 }
+
+impl<T: Copy, const N: usize> Clone for Shelf<T, N> {
+    ghost is_clone = { λ x y. y ≡ x };
+
+    ghost is_infallible = { λ _. ⊤ };
+
+    fn clone(&self) -> Result<Self, AllocError> {
+        Ok(*self)
+    }
+}
+
+impl<T: Copy, const N: usize> Copy for Shelf<T, N> {}
 
 // There is no room: a limit would be passed.
 #[derive(Clone, Copy, PartialEq, Eq, Debug)]

@@ -1,7 +1,6 @@
 -- The line for a message, from what each call promises. Assumes nothing.
-use Rattle.std.proofs.Common.{◌≡◌, ℕ, ◌≤◌, List, ◌++◌, length, take, drop, IfOk, IsErrAnd, Ok, Err, Result, ap, ◌∙◌, subst, arith}
+use Rattle.std.proofs.Common.{◌≡◌, ℕ, ◌≤◌, List, ◌++◌, length, take, drop, IfOk, Ok, Err, Result, refl, ap, ◌∙◌, subst, arith}
 use lib.Seq.{take-append_seam}
-use Rattle.std.proofs.lemmas.Result.{err_from_is_err_and}
 use Rattle.faults.specs.declared.Fault.{Fault}
 use Rattle.faults.specs.Faults.{told, telling}
 use Rattle.grammar.specs.declared.sheet.Sheet.{Sheet}
@@ -18,8 +17,7 @@ use Rattle.reader.specs.Reads as reads
 use Rattle.answers.specs.Lines.{read_line, refused_line}
 use Rattle.replies.specs.Replies.{Reply, Least}
 use Rattle.replies.specs.Replies as replies
-use Rattle.replies.specs.declared.answer.Answer.{Answer}
-use Rattle.replies.specs.inner.Answering.{Best, ReadBy, AnswerLine, no_command, reading, line_of}
+use Rattle.replies.specs.inner.Answering.{Best, ReadBy, AnswerLine, no_command, reading}
 
 -- what holds of a result made, said another way
 pub made_so : {X Y : Type 0} (r : Result X Y) (P Q : X → Type 0) → ((x : X) → P x → Q x) → IfOk r P → IfOk r Q
@@ -66,8 +64,6 @@ module _ (s : Sheet) (message : List ℕ) (heard_of : Meaning) (given : (length 
   pub answer_reply : (line : List ℕ) (n : ℕ) (vs : List ℕ) (m : Meaning) → HeardOut s heard_of (Ok n) vs m → AnswerLine s vs line → Reply s message line
   answer_reply line n vs m heard a = told_reply line n vs m (subst (λ x. HeardOut s x (Ok n) vs m) given.1 heard) a
 
-  -- the hearing stopped, and its fault was handed on
-  pub stopped_reply : (list : List ℕ) (r : Result Answer Fault) (f : Fault) (vs : List ℕ) (m : Meaning) → HeardOut s heard_of (Err (told f)) vs m → IsErrAnd r (λ y. y ≡ f) → Reply s message (line_of list r)
-  stopped_reply list r f vs m heard handed =
-      let is = err_from_is_err_and {Q = λ y. y ≡ f} r handed in
-      replies.stopped given.0 (told f) vs m (subst (λ x. HeardOut s x (Err (told f)) vs m) given.1 heard) (ap (line_of list) is.1 ∙ ap (λ y. refused_line (told y).number (told y).place) is.2)
+  -- the hearing stopped
+  pub stopped_reply : (f : Fault) (vs : List ℕ) (m : Meaning) → HeardOut s heard_of (Err (told f)) vs m → Reply s message (refused_line (told f).number (told f).place)
+  stopped_reply f vs m heard = replies.stopped given.0 (told f) vs m (subst (λ x. HeardOut s x (Err (told f)) vs m) given.1 heard) refl

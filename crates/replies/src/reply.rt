@@ -1,6 +1,8 @@
 // The line for one message.
-ghost use Rattle.std.specs.Prelude.{◌≡◌, ℕ, ◌≤◌, List, ◌++◌, length, OnOk};
+ghost use Rattle.std.specs.Prelude.{◌≡◌, ℕ, ◌≤◌, List, ◌++◌, length, Ok, Err, OnOk};
+ghost use Rattle.faults.specs.Faults.{told};
 ghost use Rattle.seats.specs.Seats.{Seat, seat};
+ghost use Rattle.answers.specs.Lines.{refused_line};
 ghost use Rattle.replies.specs.Replies.{Reply};
 ghost use Rattle.replies.specs.inner.Answering.{ReadBy, AnswerLine, line_of};
 
@@ -44,23 +46,30 @@ fn read_both(sheet: &Sheet, hall: &[u64], list: &mut [u8; 10240]) -> Result<Answ
     })
 }
 
-// The message is heard at a hall that nothing else sees.
-fn answer<'a>(sheet: &'a Sheet, message: &'a [u8], list: &mut [u8; 10240]) -> Result<Answer, Fault>
-    ensures { Reply sheet.now message.now (line_of list.new result) }
+// The line for a message that is answered, heard at a hall that nothing else sees; or why it is refused, with nothing written.
+fn push_answer<'a>(
+    sheet: &'a Sheet,
+    message: &'a [u8],
+    out: &mut Vec<u8>,
+) -> Result<Result<(), AllocError>, Fault>
+    ensures { elim result [ Ok pushed ↦ OnOk pushed ((line : List ℕ) × Reply sheet.now message.now line × (out.new.items ≡ out.old.items ++ line)) | Err f ↦ Reply sheet.now message.now (refused_line (told f).number (told f).place) × (out.new ≡ out.old) ] }
 {
     let mut pile = pile(sheet, message)?;
     let mut hall = [0u64; 3780];
     hear(sheet, &mut hall, 0, &mut pile)?;
-    read_both(sheet, &hall, list)
+    // Only now: most of the work for a refused message would be to clear it.
+    let mut list = [0u8; 10240];
+    let answer = read_both(sheet, &hall, &mut list)?;
+    let form = &list[..answer.length];
+    Ok(push_read(out, answer.points, answer.worst, form))
 }
 
 // The line for a message.
 pub fn reply<'a>(sheet: &'a Sheet, message: &'a [u8], out: &mut Vec<u8>) -> Result<(), AllocError>
     ensures { OnOk result ((line : List ℕ) × Reply sheet.now message.now line × (out.new.items ≡ out.old.items ++ line)) }
 {
-    let mut list = [0u8; 10240];
-    match answer(sheet, message, &mut list) {
-        Ok(answer) => push_read(out, answer.points, answer.worst, &list[..answer.length]),
+    match push_answer(sheet, message, out) {
+        Ok(pushed) => pushed,
         Err(fault) => push_fault(out, fault),
     }
 }

@@ -1,7 +1,7 @@
 -- One line more of a text.
 use Rattle.std.proofs.Common.{◌≡◌, ℕ, suc, ◌<◌, ◌≤◌, ◌⊎◌, List, [], ◌∷◌, ◌++◌, length, true, Ok, Err, Result, sym, refl, ap, ◌∙◌, subst, inl, inr, arith, length-append}
 use Rattle.std.specs.List.{AllByRecursion}
-use Rattle.std.specs.Result.{MatchResult, IsErrAnd, is_ok}
+use Rattle.std.specs.Result.{MatchResult, is_ok}
 use Rattle.std.proofs.lemmas.List.{append_assoc, append-nil}
 use Rattle.sheets.specs.declared.lines.Parsed.{Parsed}
 use Rattle.sheets.specs.declared.lines.Parsed.TheVariants.{Rule, Alias, Filler}
@@ -76,13 +76,6 @@ barred text rest after before ℓ Limit d n fits e wells all f well is out = (fi
 barred text rest after before ℓ SecondBar d n fits e wells all f well is out = (fits, (before, rest, e, wells, all, (ℓ, after, f, well, out.0, out.1), is))
 
 -- a result whose error was made another
-pub mapped : {D E : Type 0} {Q : D → E → Type 0} (r : Result (Unit {0}) D) (m : Result (Unit {0}) E) (G H : Type 0) (B : D → Type 0) (R : E → Type 0) → MatchResult r (λ x. m ≡ Ok x) (λ d. IsErrAnd m (Q d))
-    → elim r as (λ _. Type 0) [ Ok u ↦ G | Err d ↦ B d ] → (G → H) → ((d : D) (e : E) → Q d e → B d → R e) → elim m as (λ _. Type 0) [ Ok u ↦ H | Err e ↦ R e ]
-mapped (Ok u) (Ok v) G H B R cases outcome good bad = good outcome
-mapped (Ok u) (Err e) G H B R cases outcome good bad = cc
-mapped (Err d) (Ok v) G H B R cases outcome good bad = absurd cases
-mapped (Err d) (Err e) G H B R cases outcome good bad = bad d e cases outcome
-
 pub mapped_err : {D E : Type 0} (P : D → Type 0) (r : Result (Unit {0}) D) (e : E) → MatchResult r (λ x. ◌≡◌ {A = Result (Unit {0}) E} (Err e) (Ok x)) P → (d : D) × (r ≡ Err d) × P d
 mapped_err P (Ok u) e cases = cc
 mapped_err P (Err d) e cases = (d, refl, cases)

@@ -2,6 +2,7 @@
 ghost use Rattle.std.specs.Prelude.{◌≡◌, ℕ, ◌+◌, ◌<◌, ◌≤◌, List, length, Ok, Err};
 ghost use Rattle.faults.specs.Faults.{told, met};
 ghost use Rattle.faults.specs.declared.Layer.TheVariants.{Load};
+ghost use Rattle.faults.specs.declared.Refusal.TheVariants.{NoTree as NoTreeRefusal};
 ghost use Rattle.sheets.specs.Lines.{Line};
 ghost use Rattle.sheets.specs.Texts.{Ordered, Refused, Loaded};
 ghost use Rattle.sheets.specs.inner.Drafting.{Drafted};
@@ -10,7 +11,7 @@ use super::adding::add_line;
 use super::lines::next_line;
 use faults::{Fault, Layer, Refusal};
 use grammar::draft::Draft;
-use grammar::sheet::Sheet;
+use grammar::sheet::{NoTree, Sheet};
 
 // The longest text of a sheet.
 const LONGEST: usize = 16384;
@@ -40,18 +41,9 @@ fn read_lines(text: &[u8]) -> Result<Draft, Fault>
     Ok(draft)
 }
 
-// The sheet that the text means.
-pub fn sheet_of(text: &[u8]) -> Result<Sheet, Fault>
-    ensures { elim result [ Ok sheet ↦ Loaded text.now sheet | Err fault ↦ Refused text.now (told fault) ] }
-{
-    let mut sheet = Sheet::blank();
-    load(text, &mut sheet)?;
-    Ok(sheet)
-}
-
-// The sheet that the text means takes this one's place; a refusal leaves it.
-pub fn load(text: &[u8], sheet: &mut Sheet) -> Result<(), Fault>
-    ensures { elim result [ Ok u ↦ Loaded text.now sheet.new | Err f ↦ Refused text.now (told f) × (sheet.new ≡ sheet.old) ] }
+// The draft of a text that has a rule.
+fn draft_of(text: &[u8]) -> Result<Draft, Fault>
+    ensures { elim result [ Ok d ↦ (0 < d.rules.len) × (length text.now ≤ 16384) × ((ls : List Line) × Ordered text.now ls × Drafted ls d) | Err f ↦ Refused text.now (told f) ] }
 {
     if text.len() > LONGEST {
         return Err(refused(Refusal::SheetTooLong, 0));
@@ -60,7 +52,26 @@ pub fn load(text: &[u8], sheet: &mut Sheet) -> Result<(), Fault>
     if draft.rules.len == 0 {
         return Err(refused(Refusal::NoRule, 0));
     }
-    sheet
-        .replace(draft)
-        .map_err(|lowest| refused(Refusal::NoTree, lowest.name as usize))
+    Ok(draft)
+}
+
+// The refusal of a draft with a name that has no tree.
+fn treeless(lowest: NoTree) -> Fault
+    ensures { told result ≡ met NoTreeRefusal lowest.name Load }
+{
+    refused(Refusal::NoTree, lowest.name as usize)
+}
+
+// The sheet that the text means. Made in one place: a server's call has room for one sheet and a little more on its stack.
+pub fn sheet_of(text: &[u8]) -> Result<Sheet, Fault>
+    ensures { elim result [ Ok sheet ↦ Loaded text.now sheet | Err fault ↦ Refused text.now (told fault) ] }
+{
+    Sheet::of(draft_of(text)?).map_err(treeless)
+}
+
+// The sheet that the text means takes this one's place; a refusal leaves it.
+pub fn load(text: &[u8], sheet: &mut Sheet) -> Result<(), Fault>
+    ensures { elim result [ Ok u ↦ Loaded text.now sheet.new | Err f ↦ Refused text.now (told f) × (sheet.new ≡ sheet.old) ] }
+{
+    sheet.replace(draft_of(text)?).map_err(treeless)
 }

@@ -53,8 +53,10 @@ fn is_allowed(b: u8) -> bool
 fn spells(spelling: &Spelling, run: &[u8]) -> bool
     ensures { result ≡ bytes_eq (text spelling.now) (map lower run.now) }
 {
-    let letters = spelling.bytes.iter().take(spelling.len as usize).copied();
-    letters.eq(run.iter().map(|b| b.to_ascii_lowercase()))
+    let letters = spelling.as_bytes();
+    // Lengths first: words that begin alike would be compared letter by letter.
+    letters.len() == run.len()
+        && (letters.iter().copied()).eq(run.iter().map(|b| b.to_ascii_lowercase()))
 }
 
 fn find(words: &[Spelling], run: &[u8]) -> Option<u8>

@@ -20,7 +20,10 @@ fn answered(res: Result<usize, Fault>) -> u64 {
 pub extern "C" fn load_rounds(text: &[u8], rounds: u32) -> u64 {
     let mut words = 0;
     for _ in 0..rounds {
-        words = answered(sheet_of(text).map(|sheet| sheet.word_count() as usize));
+        let Ok(sheet) = sheet_of(text) else {
+            return u64::MAX;
+        };
+        words = u64::from(sheet.word_count());
     }
     words
 }

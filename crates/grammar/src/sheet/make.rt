@@ -51,7 +51,7 @@ impl Sheet {
     }
 
     // The draft's sheet, or the lowest name without a tree.
-    pub(crate) fn of(draft: Draft) -> Result<Sheet, NoTree>
+    pub fn of(draft: Draft) -> Result<Sheet, NoTree>
         requires { 0 < draft.rules.len }
         ensures { elim result [ Ok s ↦ Kept draft s | Err e ↦ Lowest draft e.name ] }
     {

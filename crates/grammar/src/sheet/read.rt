@@ -67,10 +67,7 @@ impl Sheet {
     pub fn alias_table(&self) -> Shelf<Alias, 16>
         ensures { take result.len result.items ≡ aliases_in self.now }
     {
-        Shelf {
-            items: self.draft.aliases.items,
-            len: self.draft.aliases.len,
-        }
+        self.draft.aliases
     }
 
     // The filler words, a bit for each.
