@@ -1,3 +1,4 @@
 pub mod Alikes
 pub mod SameHalls
+pub mod Sheets
 pub mod Readings

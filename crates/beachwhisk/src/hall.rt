@@ -1,6 +1,5 @@
 // The calls at a hall. Each loads the sheet from its text first: its refusals come before all others.
 // Calls that differ only in the call they make stay apart: each is a name and a list of parameters for C.
-// The sheet is looked at where it was made: moved out of its Result, it would stand on the caller's stack twice.
 ghost use Rattle.std.specs.Prelude.{◌≡◌, ℕ, Result};
 ghost use Rattle.faults.specs.Faults.{Told};
 ghost use Rattle.beachwhisk.specs.Told.{answer_of};
@@ -16,20 +15,19 @@ use sheets::load::sheet_of;
 pub extern "C" fn beachwhisk_load(text: &[u8]) -> Answer
     ensures { (a : Result ℕ Told) × (result ≡ answer_of a) × Load text.now a }
 {
-    match &sheet_of(text) {
-        Ok(sheet) => Ok(u64::from(sheet.word_count())).into(),
-        Err(fault) => (*fault).into(),
-    }
+    sheet_of(text)
+        .map(|sheet| u64::from(sheet.word_count()))
+        .into()
 }
 
-// Empties all four seats.
+// Empties all four seats. A call that writes to the hall stands in a match: of what a closure writes there a proof learns nothing.
 #[unsafe(no_mangle)]
 pub extern "C" fn beachwhisk_open(text: &[u8], hall: &mut [u64]) -> Answer
     ensures { (a : Result ℕ Told) × (result ≡ answer_of a) × Open text.now hall.old a hall.new }
 {
-    match &sheet_of(text) {
-        Ok(sheet) => open(sheet, hall).into(),
-        Err(fault) => (*fault).into(),
+    match sheet_of(text) {
+        Ok(sheet) => open(&sheet, hall).into(),
+        Err(fault) => fault.into(),
     }
 }
 
@@ -38,9 +36,9 @@ pub extern "C" fn beachwhisk_open(text: &[u8], hall: &mut [u64]) -> Answer
 pub extern "C" fn beachwhisk_clear(text: &[u8], hall: &mut [u64], seat: usize) -> Answer
     ensures { (a : Result ℕ Told) × (result ≡ answer_of a) × Clear text.now seat hall.old a hall.new }
 {
-    match &sheet_of(text) {
-        Ok(sheet) => clear(sheet, hall, seat).into(),
-        Err(fault) => (*fault).into(),
+    match sheet_of(text) {
+        Ok(sheet) => clear(&sheet, hall, seat).into(),
+        Err(fault) => fault.into(),
     }
 }
 
@@ -49,9 +47,9 @@ pub extern "C" fn beachwhisk_clear(text: &[u8], hall: &mut [u64], seat: usize) -
 pub extern "C" fn beachwhisk_say(text: &[u8], hall: &mut [u64], seat: usize, word: u8) -> Answer
     ensures { (a : Result ℕ Told) × (result ≡ answer_of a) × Say text.now seat word hall.old a hall.new }
 {
-    match &sheet_of(text) {
-        Ok(sheet) => say(sheet, hall, seat, word).into(),
-        Err(fault) => (*fault).into(),
+    match sheet_of(text) {
+        Ok(sheet) => say(&sheet, hall, seat, word).into(),
+        Err(fault) => fault.into(),
     }
 }
 
@@ -60,9 +58,9 @@ pub extern "C" fn beachwhisk_say(text: &[u8], hall: &mut [u64], seat: usize, wor
 pub extern "C" fn beachwhisk_back(text: &[u8], hall: &mut [u64], seat: usize) -> Answer
     ensures { (a : Result ℕ Told) × (result ≡ answer_of a) × Back text.now seat hall.old a hall.new }
 {
-    match &sheet_of(text) {
-        Ok(sheet) => back(sheet, hall, seat).into(),
-        Err(fault) => (*fault).into(),
+    match sheet_of(text) {
+        Ok(sheet) => back(&sheet, hall, seat).into(),
+        Err(fault) => fault.into(),
     }
 }
 
@@ -76,9 +74,9 @@ pub extern "C" fn beachwhisk_hear(
 ) -> Answer
     ensures { (a : Result ℕ Told) × (result ≡ answer_of a) × Hear text.now seat message.now hall.old a hall.new }
 {
-    match &sheet_of(text) {
-        Ok(sheet) => hear_message(sheet, hall, seat, message).into(),
-        Err(fault) => (*fault).into(),
+    match sheet_of(text) {
+        Ok(sheet) => hear_message(&sheet, hall, seat, message).into(),
+        Err(fault) => fault.into(),
     }
 }
 
@@ -87,10 +85,9 @@ pub extern "C" fn beachwhisk_hear(
 pub extern "C" fn beachwhisk_offer(text: &[u8], hall: &[u64], seat: usize) -> Answer
     ensures { (a : Result ℕ Told) × (result ≡ answer_of a) × Offer text.now seat hall.now a }
 {
-    match &sheet_of(text) {
-        Ok(sheet) => offer(sheet, hall, seat).into(),
-        Err(fault) => (*fault).into(),
-    }
+    sheet_of(text)
+        .and_then(|sheet| offer(&sheet, hall, seat))
+        .into()
 }
 
 // How many bits of the seat's table are set.
@@ -98,8 +95,7 @@ pub extern "C" fn beachwhisk_offer(text: &[u8], hall: &[u64], seat: usize) -> An
 pub extern "C" fn beachwhisk_held(text: &[u8], hall: &[u64], seat: usize) -> Answer
     ensures { (a : Result ℕ Told) × (result ≡ answer_of a) × CountHeld text.now seat hall.now a }
 {
-    match &sheet_of(text) {
-        Ok(sheet) => held(sheet, hall, seat).into(),
-        Err(fault) => (*fault).into(),
-    }
+    sheet_of(text)
+        .and_then(|sheet| held(&sheet, hall, seat))
+        .into()
 }

@@ -24,10 +24,8 @@ fn read_on<C: Scale>(
 ) -> Result<Reading<C::Price>, Fault>
     ensures { ReadOn C.Scale.measure text.now seat hall.now (record { list = list.old; prices = prices.old; numbers = numbers.old }) (telling result) (record { list = list.new; prices = prices.new; numbers = numbers.new }) }
 {
-    match &sheet_of(text) {
-        Ok(sheet) => read::<C>(sheet, hall, seat, list, prices, numbers),
-        Err(fault) => Err(*fault),
-    }
+    let sheet = sheet_of(text)?;
+    read::<C>(&sheet, hall, seat, list, prices, numbers)
 }
 
 // The price is the sum of the weights, which stops at the largest number.

@@ -62,7 +62,7 @@ fn treeless(lowest: NoTree) -> Fault
     refused(Refusal::NoTree, lowest.name as usize)
 }
 
-// The sheet that the text means. Made in one place: a server's call has room for one sheet and a little more on its stack.
+// The sheet that the text means. Made from its draft: a blank one to load into would stand on the stack beside it.
 pub fn sheet_of(text: &[u8]) -> Result<Sheet, Fault>
     ensures { elim result [ Ok sheet ↦ Loaded text.now sheet | Err fault ↦ Refused text.now (told fault) ] }
 {

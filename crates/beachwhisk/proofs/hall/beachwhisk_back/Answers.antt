@@ -4,7 +4,7 @@ use Rattle.beachwhisk.specs.Calls.{done, no_sheet}
 use Rattle.beachwhisk.proofs.hall.beachwhisk_back.Goals as goal
 
 pub returns-in-Ok : goal.returns-in-Ok
-returns-in-Ok c = (telling c.back.result, c.into.ensures, done c.in-Ok.sheet (rw c.in-Ok.is at c.sheet_of.ensures) (c.back.ensures.made, c.back.ensures.kept))
+returns-in-Ok c = (telling c.back.result, c.into.ensures, done c.in-Ok.sheet c.in-Ok.ensures (c.back.ensures.made, c.back.ensures.kept))
 
 pub returns-in-Err : goal.returns-in-Err
-returns-in-Err c = let t = told c.in-Err.fault in (Err t, c.into-in-Err.ensures, no_sheet t (rw c.in-Err.is at c.sheet_of.ensures) refl refl)
+returns-in-Err c = let t = told c.in-Err.fault in (Err t, c.into-in-Err.ensures, no_sheet t c.in-Err.ensures refl refl)

@@ -1,10 +1,16 @@
-use Rattle.std.proofs.Common.{Ok, Err, refl, ap, ◌∙◌}
-use Rattle.faults.specs.Faults.{told}
-use Rattle.beachwhisk.specs.Calls.{done, no_sheet}
+use Rattle.std.proofs.Common.{length, rules}
+use Rattle.std.proofs.lemmas.Result.{MatchResult-weaker}
+use Rattle.faults.specs.Faults.{telling}
+use Rattle.grammar.specs.View.{words_in}
+use Rattle.beachwhisk.proofs.Sheets.{given, number}
 use Rattle.beachwhisk.proofs.hall.beachwhisk_load.Goals as goal
 
-pub returns-in-Ok : goal.returns-in-Ok
-returns-in-Ok c = (Ok c.from.result, c.into.ensures, done c.in-Ok.sheet (rw c.in-Ok.is at c.sheet_of.ensures) (ap Ok (c.from.ensures ∙ c.word_count.ensures)))
-
-pub returns-in-Err : goal.returns-in-Err
-returns-in-Err c = let t = told c.in-Err.fault in (Err t, c.into-in-Err.ensures, no_sheet t (rw c.in-Err.is at c.sheet_of.ensures) refl tt)
+pub returns : goal.returns
+returns c = (
+  telling c.map.result,
+  c.into.ensures,
+  given _ _ c.sheet_of.result c.map.result c.sheet_of.ensures
+      (MatchResult-weaker c.sheet_of.result c.map.ensures.cases
+      (λ s p. number c.map.result (length (words_in s)) _ (λ m q. search rules) p)
+      (λ e p. p)),
+)

@@ -1,10 +1,12 @@
-use Rattle.std.proofs.Common.{Err, refl}
-use Rattle.faults.specs.Faults.{told, telling}
-use Rattle.beachwhisk.specs.Calls.{done, no_sheet}
+use Rattle.std.proofs.Common.{rules}
+use Rattle.std.proofs.lemmas.Result.{MatchResult-weaker}
+use Rattle.faults.specs.Faults.{telling}
+use Rattle.beachwhisk.proofs.Sheets.{given}
 use Rattle.beachwhisk.proofs.hall.beachwhisk_offer.Goals as goal
 
-pub returns-in-Ok : goal.returns-in-Ok
-returns-in-Ok c = (telling c.offer.result, c.into.ensures, done c.in-Ok.sheet (rw c.in-Ok.is at c.sheet_of.ensures) c.offer.ensures)
-
-pub returns-in-Err : goal.returns-in-Err
-returns-in-Err c = let t = told c.in-Err.fault in (Err t, c.into-in-Err.ensures, no_sheet t (rw c.in-Err.is at c.sheet_of.ensures) refl tt)
+pub returns : goal.returns
+returns c = (
+  telling c.and_then.result,
+  c.into.ensures,
+  given _ _ c.sheet_of.result c.and_then.result c.sheet_of.ensures (MatchResult-weaker c.sheet_of.result c.and_then.ensures (λ s p. search rules) (λ e p. p)),
+)
